@@ -17,7 +17,7 @@ import tempfile
 HERE = os.path.dirname(os.path.abspath(__file__))
 TOP = os.path.dirname(HERE)
 CRATE = 'mpd_bench'
-USED = 'mpd_model', 'mpd_script', 'mpd_code', 'mpd_core', 'mpd_policy'
+USED = 'mpd_model', 'mpd_script', 'mpd_code', 'mpd_core', 'mpd_trail', 'mpd_policy'
 
 
 def build(out):

@@ -11,10 +11,10 @@ MPDBG = os.path.join(os.path.dirname(os.path.abspath(__file__)), '..', 'mpdbg')
 
 
 class Session:
-    """A session of `mpdbg run` on a script: each request is a line, and each reply."""
+    """A session of `mpdbg run --wide` on a script: each request is a line, and each reply."""
 
     def __init__(self, script, mode='rendezvous'):
-        self.process = subprocess.Popen([MPDBG, 'run', script, '--mode', mode], stdin=subprocess.PIPE, stdout=subprocess.PIPE, text=True)
+        self.process = subprocess.Popen([MPDBG, 'run', script, '--wide', '--mode', mode], stdin=subprocess.PIPE, stdout=subprocess.PIPE, text=True)
 
     def ask(self, command, **fields):
         """The reply to a request; an error where it is refused, or where the session has ended."""

@@ -207,7 +207,7 @@ def nearly_script(random, version):
 
 def with_options(random, case):
     """A check that explains, with other options as they may stand beside that."""
-    asked = case.asked._replace(explain=random.random() < 0.95, witnesses=random.random() < 0.3, group=random.random() < 0.3)
+    asked = case.asked._replace(explain=random.random() < 0.95, traps=False, witnesses=random.random() < 0.3, group=random.random() < 0.3)
     draw = random.random()
     if draw < 0.12:
         asked = asked._replace(until=True)

@@ -306,7 +306,8 @@ def asked(random, kind, script, number):
         mode = ODD_SLOTS[turn // ODD_EVERY % len(ODD_SLOTS)]
     if kind.ends and random.random() < 0.1:
         runs, fuel = random.choice([None, runs, runs]), None
-    return Asked(mode, runs, fuel, random.random() < 0.6, random.random() < 0.3)
+    witnesses = random.random() < 0.6
+    return Asked(mode, runs, fuel, witnesses, random.random() < 0.3, traps=witnesses and random.random() < 0.5)
 
 
 class Case(NamedTuple):

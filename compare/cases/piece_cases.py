@@ -135,7 +135,7 @@ def beside(seed, number, case, script):
     elif draw < 0.85:
         other, name = asked._replace(until=True), 'until'
     else:
-        other, name = asked._replace(workers=workers(random), witnesses=not asked.witnesses), 'workers'
+        other, name = asked._replace(workers=workers(random), witnesses=not asked.witnesses, traps=not asked.witnesses), 'workers'
     return case._replace(name=f'{case.name}-{name}', asked=other)
 
 
@@ -153,7 +153,8 @@ def workers_of(number, split):
 def by_split(seed, number, split, case, script):
     """Two checks of a script by so many choices: its report, with witnesses or without, and in turn a piece, their number, or until."""
     random = Random(f'split/{seed}/{number}/{split}')
-    asked = case.asked._replace(split=split, workers=workers_of(number, split), witnesses=(number + split) % 2 == 0)
+    is_witnessed = (number + split) % 2 == 0
+    asked = case.asked._replace(split=split, workers=workers_of(number, split), witnesses=is_witnessed, traps=is_witnessed and case.asked.traps)
     if script is not None:
         count = len(cut(script, asked))
         if script.ranks > MANY_RANKS and count > MOST_LEAVES_BY_EVERY:

@@ -39,7 +39,7 @@ def report_asked(seed, number):
     if script is None:
         return None
     usual = filled(case.asked)
-    return case._replace(name=f'{case.name}-report', asked=usual._replace(witnesses=True, group=False, complete=False, workers=None))
+    return case._replace(name=f'{case.name}-report', asked=usual._replace(witnesses=True, traps=True, group=False, complete=False, workers=None))
 
 
 # ---- words

@@ -25,6 +25,8 @@ VALUES = (0, -1, 1, 2 ** 63 - 1, -2 ** 63, 2 ** 63, -2 ** 63 - 1)
 EDGES = (0, 1, 2, 15, 16, 63, 64, 65, 65536, 65537, 65538, 999_999, 1_000_000, 1_000_001, 2 ** 32, 2 ** 63, 2 ** 64 - 1)
 ENDS = (b'\n',) * 20 + (b'\r\n', b'\r\n', b'\n\n', b'\n\r\n', b'\r\r\n', b'\n\n\n')
 WAYS = ('at once', 'in pieces', 'turn by turn')
+# How many sessions are given `--wide`. The others are asked the same, and much of it is refused.
+WIDE = 0.8
 
 
 class Habits(NamedTuple):
@@ -77,10 +79,10 @@ def is_small(walked):
 class Talk:
     """Requests of one session, each drawn where the session is then; what was drawn is counted in `met`."""
 
-    def __init__(self, random, script, mode, habits):
+    def __init__(self, random, script, mode, habits, wide=True):
         self.random, self.habits = random, habits
         read = read_script(script)
-        self.session, self.version = Session(read, mode), read.version
+        self.session, self.version = Session(read, mode, wide), read.version
         self.source_lines = script.count(b'\n') + 1
         self.blank, self.escapes = random.choice([0.0, 0.0, 0.3]), random.choice([0.0, 0.0, 0.0, 0.1, 1.0])
         self.met = Counter()
@@ -257,7 +259,7 @@ class Talk:
     def is_long(self, line):
         """Whether a line asks for more steps than the model should take."""
         try:
-            request = parse(line)
+            request = parse(line, self.session.wide)
         except Refused:
             return False
         if request.command in ('run', 'run-on'):
@@ -278,7 +280,7 @@ class Talk:
         if reply and reply.get('stop') == policy.BREAK:
             kind = type(self.session.breaks.get(reply['break'])).__name__.removesuffix('Break').lower()
             self.met[f'a stop by {kind}'] += 1
-        if reply and reply['ok'] and 'stop' in reply and parse(line).command == 'run-on':
+        if reply and reply['ok'] and 'stop' in reply and parse(line, self.session.wide).command == 'run-on':
             singles = [isinstance(policy.decision(world), Choice) for world in self.walked.worlds[before:self.walked.depth]]
             self.met['a run on past a single candidate'] += any(singles)
             self.met['a run on that stops behind a single candidate'] += singles[-1:] == [True] and reply['stop'] == policy.BREAK
@@ -310,13 +312,14 @@ def script_for(random, mode):
 
 
 class Case(NamedTuple):
-    """A script in a mode (None: not said), what is sent, piece by piece, in which way, and what was met as it was drawn."""
+    """A script in a mode (None: not said), what is sent, piece by piece, in which way, what was met as it was drawn, and whether `--wide` is given."""
     name: str
     script: bytes
     mode: str
     pieces: tuple
     way: str
     met: Counter
+    wide: bool = True
 
     @property
     def data(self):
@@ -324,7 +327,7 @@ class Case(NamedTuple):
 
     def wanted(self):
         """What must be answered."""
-        return serve(self.script, self.data, RENDEZVOUS if self.mode is None else self.mode)
+        return serve(self.script, self.data, RENDEZVOUS if self.mode is None else self.mode, self.wide)
 
 
 def ended(random, pieces):
@@ -354,12 +357,13 @@ def random_case(seed, number):
     random = Random(f'sessions/{seed}/{number}')
     mode = by_turns(random.choice(MODES), number)
     script, way, habits = script_by(seed, random, mode), WAYS[number % len(WAYS)], random.choice(ALL_HABITS)
+    wide = Random(f'wide sessions/{seed}/{number}').random() < WIDE
     try:
-        talk = Talk(random, script, mode, habits)
+        talk = Talk(random, script, mode, habits, wide)
     except Fault:
-        return Case(f'session-{seed}-{number}', script, mode, (b'{"cmd":"state"}\n',), 'at once', Counter())
+        return Case(f'session-{seed}-{number}', script, mode, (b'{"cmd":"state"}\n',), 'at once', Counter(), wide)
     pieces = ended(random, list(talk.lines(random.choice(habits.lines))))
     if way == 'in pieces':
         pieces = in_pieces(random, b''.join(pieces))
     mode = None if mode == RENDEZVOUS and random.random() < 0.3 else mode
-    return Case(f'session-{seed}-{number}', script, mode, tuple(pieces), way, talk.met)
+    return Case(f'session-{seed}-{number}', script, mode, tuple(pieces), way, talk.met, wide)

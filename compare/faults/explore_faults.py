@@ -345,7 +345,11 @@ def report_faults():
     bad = (
         ('status 0 for a trap', ('deadlock',)), ('status 0 for a deadlock', ('trap',)),
         ('status 1 for leftovers', ('deadlock', 'trap', 'leftovers')), ('status 1 for a run that is cut', ('deadlock', 'trap', CUT)))
+    asked_for = (
+        ('a witness of a trap though it is not asked for', lambda asked: asked.witnesses),
+        ('no witness of a trap though it is asked for', lambda asked: asked.witnesses and explorer.OF_DEADLOCKS))
     return ([Breakage(name, explorer, 'part', replacement) for name, replacement in parts]
+            + [Breakage(name, explorer, 'witnesses_of', replacement) for name, replacement in asked_for]
             + [Breakage(name, explorer, 'witness', of_witness(change)) for name, change in witnesses]
             + [Breakage(name, explorer, 'leaf_lines', replacement) for name, replacement in lines]
             + [Breakage(name, explorer, 'is_bad', bad_by(*kinds)) for name, kinds in bad]

@@ -200,20 +200,20 @@ def json_faults():
 
 # ---- requests
 
-def as_not_json(line):
+def as_not_json(line, wide=False):
     """What tells what is no object as no JSON."""
     try:
-        return PARSE(line)
+        return PARSE(line, wide)
     except Refused as refused:
         if refused.number == BAD_FIELD and type(READ_JSON(line)) is not dict:
             raise Refused(NOT_JSON) from None
         raise
 
 
-def unknown_without_command(line):
+def unknown_without_command(line, wide=False):
     """What tells a missing command as an unknown one."""
     try:
-        return PARSE(line)
+        return PARSE(line, wide)
     except Refused as refused:
         value = READ_JSON(line) if refused.number == BAD_FIELD else None
         if type(value) is dict and 'cmd' not in value:
@@ -221,81 +221,114 @@ def unknown_without_command(line):
         raise
 
 
-def json_before_length(line):
+def json_before_length(line, wide=False):
     """What tells a long line as no JSON where it is none."""
     if len(line) > session.LONGEST_LINE:
         try:
             READ_JSON(line)
         except NoJson:
             raise Refused(NOT_JSON) from None
-    return PARSE(line)
+    return PARSE(line, wide)
 
 
-def fields_before_command(line):
+def fields_before_command(line, wide=False):
     """What tests the version before whether the command is known."""
     try:
-        return PARSE(line)
+        return PARSE(line, wide)
     except Refused as refused:
         if refused.number == UNKNOWN_COMMAND and 'at' in READ_JSON(line):
             NUMBER_IN(READ_JSON(line)['at'])
         raise
 
 
-def any_case(line):
+def any_case(line, wide=False):
     """What takes a command in capitals."""
     try:
         value = READ_JSON(line)
     except NoJson:
-        return PARSE(line)
+        return PARSE(line, wide)
     if type(value) is dict and type(value.get('cmd')) is str and value['cmd'].lower() in session.FIELDS and len(line) <= session.LONGEST_LINE:
-        return PARSE(json.dumps({**value, 'cmd': value['cmd'].lower()}).encode())
-    return PARSE(line)
+        return PARSE(json.dumps({**value, 'cmd': value['cmd'].lower()}).encode(), wide)
+    return PARSE(line, wide)
 
 
-def with_blanks(line):
+def with_blanks(line, wide=False):
     """What takes blanks about a command."""
     try:
         value = READ_JSON(line)
     except NoJson:
-        return PARSE(line)
+        return PARSE(line, wide)
     if type(value) is dict and type(value.get('cmd')) is str and value['cmd'] != value['cmd'].strip() and len(line) <= session.LONGEST_LINE:
-        return PARSE(json.dumps({**value, 'cmd': value['cmd'].strip()}).encode())
-    return PARSE(line)
+        return PARSE(json.dumps({**value, 'cmd': value['cmd'].strip()}).encode(), wide)
+    return PARSE(line, wide)
 
 
-def one_field_more(command, entries):
+def one_field_more(command, entries, wide):
     """What doesn't look at fields that a command hasn't."""
     known = {*FIELDS_OF(command, entries), *session.MAY_HAVE.get(command, {}), 'at'}
-    return READ_FIELDS(command, {name: value for name, value in entries.items() if name in known})
+    return READ_FIELDS(command, {name: value for name, value in entries.items() if name in known}, wide)
 
 
-def other_commands_fields(command, entries):
+def other_commands_fields(command, entries, wide):
     """What takes fields of other commands too."""
     known = {*FIELDS_OF(command, entries), *session.MAY_HAVE.get(command, {}), 'at'}
     others = {name for fields in session.FIELDS.values() for name in fields}
-    return READ_FIELDS(command, {name: value for name, value in entries.items() if name in known or name not in others})
+    return READ_FIELDS(command, {name: value for name, value in entries.items() if name in known or name not in others}, wide)
 
 
 def usual_fields(usual):
     """What takes a value for a field that is missing."""
-    def read(command, entries):
+    def read(command, entries, wide):
         there = {name: value for name, value in usual.items() if name in session.FIELDS[command] and name not in entries}
-        return READ_FIELDS(command, {**there, **entries})
+        return READ_FIELDS(command, {**there, **entries}, wide)
     return read
 
 
-def other_kinds_fields(command, entries):
+def other_kinds_fields(command, entries, wide):
     """What takes a line beside the cell of a breakpoint."""
     if command == 'break' and entries.get('kind') == 'change':
         entries = {name: value for name, value in entries.items() if name != 'line'}
-    return READ_FIELDS(command, entries)
+    return READ_FIELDS(command, entries, wide)
 
 
-def kind_unlooked(command, entries):
+def kind_unlooked(command, entries, wide):
     """What takes each kind of breakpoint that isn't known for one on a line."""
     if command == 'break' and 'kind' in entries and entries['kind'] not in session.FIELDS_OF_KINDS:
         entries = {**entries, 'kind': 'line'}
-    return READ_FIELDS(command, entries)
+    return READ_FIELDS(command, entries, wide)
+
+
+def bad_field_for_wide(line, wide=False):
+    """What tells a command that is read with `--wide` alone as a wrong field."""
+    try:
+        return PARSE(line, wide)
+    except Refused as refused:
+        if refused.number == UNKNOWN_COMMAND and READ_JSON(line)['cmd'] in session.WIDE_COMMANDS:
+            raise Refused(BAD_FIELD) from None
+        raise
+
+
+def fields_before_wide(line, wide=False):
+    """What looks at the fields of a command that is read with `--wide` alone first."""
+    try:
+        return PARSE(line, wide)
+    except Refused as refused:
+        if refused.number == UNKNOWN_COMMAND:
+            PARSE(line, READ_JSON(line)['cmd'] in session.WIDE_COMMANDS)
+        raise
+
+
+def kind_unknown(command, entries, wide):
+    """What tells a kind of breakpoint that is read with `--wide` alone as an unknown command."""
+    must_be(wide or entries.get('kind') not in tuple(session.WIDE_KINDS), UNKNOWN_COMMAND)
+    return READ_FIELDS(command, entries, wide)
+
+
+def wide_fields_dropped(command, entries, wide):
+    """What passes over the fields of a breakpoint that are read with `--wide` alone."""
+    kind = entries.get('kind')
+    dropped = session.WIDE_FIELDS.get(kind, ()) if command == 'break' and type(kind) is str and not wide else ()
+    return READ_FIELDS(command, {name: value for name, value in entries.items() if name not in dropped}, wide)
 
 
 def texts_as_numbers(value):
@@ -351,15 +384,31 @@ def with_numbers(name, replacement):
     return Breakage(name, session, 'FIELDS', replaced(session.NUMBER, replacement))
 
 
+def wide_faults():
+    """What takes something without `--wide`, or wants it for something of the closed list."""
+    commands, kinds, fields = session.WIDE_COMMANDS, session.WIDE_KINDS, session.WIDE_FIELDS
+    return [
+        *(Breakage(f'{command} without --wide', session, 'WIDE_COMMANDS', commands - {command}) for command in sorted(commands)),
+        *(Breakage(f'{command} with --wide alone', session, 'WIDE_COMMANDS', commands | {command}) for command in sorted({*session.FIELDS} - commands)),
+        *(Breakage(f'breakpoints of a {kind} without --wide', session, 'WIDE_KINDS', kinds - {kind}) for kind in sorted(kinds)),
+        *(Breakage(f'breakpoints of a {kind} with --wide alone', session, 'WIDE_KINDS', kinds | {kind}) for kind in ('change', 'line', 'match')),
+        Breakage('a rank of a line without --wide', session, 'WIDE_FIELDS', {**fields, 'line': fields['line'] - {'rank'}}),
+        Breakage('a condition without --wide', session, 'WIDE_FIELDS', {**fields, 'line': frozenset(['rank'])}),
+        Breakage('a rank of a match without --wide', session, 'WIDE_FIELDS', {'line': fields['line']}),
+        Breakage('a cell that changes with --wide alone', session, 'WIDE_FIELDS', {**fields, 'change': frozenset(['cell'])})]
+
+
 def request_faults():
     parses = (('what is no object as no JSON', as_not_json), ('a missing command as an unknown one', unknown_without_command),
               ('JSON before the length', json_before_length), ('a field before the command', fields_before_command),
-              ('commands in capitals', any_case), ('blanks about a command', with_blanks))
+              ('commands in capitals', any_case), ('blanks about a command', with_blanks),
+              ('all read without --wide', lambda line, wide=False: PARSE(line, True)), ('--wide passed over', lambda line, wide=False: PARSE(line)),
+              ('a wide command as a wrong field', bad_field_for_wide), ('fields before a wide command', fields_before_wide))
     fields = (('one field too many', one_field_more), ('fields of no command', other_commands_fields),
               ('a run without its number', usual_fields({'max': 1})), ('a step back without its count', usual_fields({'count': 1})),
               ('what is explored without fuel', usual_fields({'fuel': 10})), ('a goto without its depth', usual_fields({'depth': 0})),
               ('cells without their rank', usual_fields({'rank': 0})), ('a line beside a cell', other_kinds_fields),
-              ('a kind that isn\'t known', kind_unlooked))
+              ('a kind that isn\'t known', kind_unlooked), ('a wide kind as an unknown command', kind_unknown), ('wide fields passed over', wide_fields_dropped))
     return [
         *(Breakage(name, session, 'parse', replacement) for name, replacement in parses),
         *(Breakage(name, session, 'read_fields', replacement) for name, replacement in fields),
@@ -529,4 +578,4 @@ def line_faults():
 
 def breakages():
     """All of them."""
-    return [*json_faults(), *request_faults(), *line_faults()]
+    return [*json_faults(), *request_faults(), *wide_faults(), *line_faults()]

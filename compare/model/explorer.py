@@ -134,10 +134,22 @@ def verify(script, mode, steps, blocked, word='deadlock'):
     return None if tuple(blocked) == told else Refusal(WRONG_BLOCKED)
 
 
+# Of which leaves witnesses are written, where it isn't of none (False) or of all that have one (True).
+OF_DEADLOCKS = 'of deadlocks'
+
+
+def witnesses_of(asked):
+    """Of which leaves a check writes the witnesses, if any are asked for: of deadlocks, and of traps where that is asked for, and wherever more is
+    told of leaves, or other runs are tried, than in a plain report."""
+    if not asked.witnesses:
+        return False
+    return True if asked.traps or asked.explain or asked.ends or asked.until or asked.group else OF_DEADLOCKS
+
+
 def leaf_lines(number, leaf, witnesses):
     """The line of a leaf, that of its witness where there is one and it is asked for, and those that explain it."""
     yield f'leaf {number} [{" ".join(map(str, leaf.choices))}] {leaf.outcome}'
-    if witnesses and (found := witness(leaf)):
+    if witnesses and (found := witness(leaf)) and (witnesses != OF_DEADLOCKS or found.word == 'deadlock'):
         yield f'witness {number}: {", ".join(map(step_text, found.steps))}'
     yield from leaf.explained
 
@@ -225,6 +237,7 @@ class Asked(NamedTuple):
     ends: bool = False
     group: bool = False
     explain: bool = False
+    traps: bool = False
 
 
 # What is meant where an option is left out.
@@ -280,7 +293,7 @@ def modes_tried(script, asked):
 def told(script, asked, found, is_wide):
     """The result of a check of a script that comes to a report, along the wide walk or along decisions."""
     found = explained(script, asked.mode, found) if asked.explain else found
-    text = (group_text if asked.group else report_text)(found, asked.witnesses)
+    text = (group_text if asked.group else report_text)(found, witnesses_of(asked))
     return Result(text.encode(), b'', status_of(script, asked.mode, found, asked.complete, is_wide))
 
 
@@ -309,6 +322,8 @@ def clash(asked):
 def check(text, asked):
     """The result of a check of the text of a file, which is None where that can't be read: whether the options can stand together is
     tested first, then the mode, and no option is left out."""
+    if asked.traps and not asked.witnesses:
+        return refused('--traps wants --witness')
     if clash(asked) is not None:
         return refused(f"--complete and {clash(asked)} can't stand together")
     if not is_mode(asked.mode):
@@ -337,7 +352,7 @@ def option_words(asked):
     numbers = [(name, getattr(asked, name)) for name in ('mode', 'runs', 'fuel', 'split', 'workers', 'piece', 'modes')]
     there = [(f'--{name}', str(value)) for name, value in numbers if value is not None]
     flags = [('--witness', asked.witnesses), ('--complete', asked.complete), ('--pieces', asked.pieces), ('--ends', asked.ends),
-             ('--group', asked.group), ('--explain', asked.explain)]
+             ('--group', asked.group), ('--explain', asked.explain), ('--traps', asked.traps)]
     return [word for pair in there for word in pair] + [flag for flag, is_there in flags if is_there] + ['--until', 'deadlock'] * asked.until
 
 
@@ -360,7 +375,7 @@ def asked_by(words):
         parser.add_argument(f'--{name}', type=number_between(least, most), metavar='N')
     parser.add_argument('--until', choices=['deadlock'])
     parser.add_argument('--witness', dest='witnesses', action='store_true')
-    for name in ('complete', 'pieces', 'ends', 'group', 'explain'):
+    for name in ('complete', 'pieces', 'ends', 'group', 'explain', 'traps'):
         parser.add_argument(f'--{name}', action='store_true')
     chosen = vars(parser.parse_args(words))
     file = chosen.pop('file')

@@ -98,6 +98,10 @@ FIELDS_OF_KINDS = {'line': {'line': NUMBER}, 'match': {'line': NUMBER}, 'change'
 # All of a condition stand, or none.
 CONDITION = {'cell': NUMBER, 'is': operator_in, 'value': integer_in}
 KINDS_MAY_HAVE = {'line': {'rank': NUMBER}, 'match': {'rank': NUMBER}}
+# What is read with `--wide` alone: commands, kinds of breakpoints, and fields of the other kinds.
+WIDE_COMMANDS = frozenset(['run-on', 'hit', 'script', 'where', 'all', 'decision', 'steps', 'lines', 'explain'])
+WIDE_KINDS = frozenset(['handle', 'rank'])
+WIDE_FIELDS = {'line': frozenset(['rank', *CONDITION]), 'match': frozenset(['rank'])}
 
 
 def fields_of(command, entries):
@@ -117,8 +121,16 @@ def may_have(command, entries):
     return KINDS_MAY_HAVE.get(entries['kind'], {}) if command == 'break' else MAY_HAVE.get(command, {})
 
 
-def read_fields(command, entries):
+def is_wide(entries):
+    """Whether a breakpoint is of a kind, or has a field, that is read with `--wide` alone."""
+    kind = entries.get('kind')
+    return type(kind) is str and (kind in WIDE_KINDS or not WIDE_FIELDS.get(kind, frozenset()).isdisjoint(entries))
+
+
+def read_fields(command, entries, wide):
     """The request of a command that is known, by what its object has beside it."""
+    if command == 'break' and not wide and is_wide(entries):
+        raise Refused(BAD_FIELD)
     needed = fields_of(command, entries)
     readers = {**needed, **may_have(command, entries), 'at': NUMBER}
     if not set(needed) <= set(entries) <= set(readers):
@@ -127,8 +139,8 @@ def read_fields(command, entries):
     return Request(command, fields.pop('at', None), fields)
 
 
-def parse(line):
-    """The request of a line without its end; the first test that fails refuses it."""
+def parse(line, wide=False):
+    """The request of a line without its end, with `--wide` or without it; the first test that fails refuses it."""
     if len(line) > LONGEST_LINE:
         raise Refused(LINE_TOO_LONG)
     try:
@@ -139,9 +151,9 @@ def parse(line):
         raise Refused(BAD_FIELD)
     entries = dict(value)
     command = entries.pop('cmd')
-    if command not in FIELDS:
+    if command not in FIELDS or not wide and command in WIDE_COMMANDS:
         raise Refused(UNKNOWN_COMMAND)
-    return read_fields(command, entries)
+    return read_fields(command, entries, wide)
 
 
 # ---- answers (docs/SESSIONS.md, "Replies" and "Refusals")
@@ -199,10 +211,10 @@ def text_of_call(world, call_id):
 
 
 class Session:
-    """A debugger, its breakpoints, and the version, which each change that is answered ok raises."""
+    """A debugger, its breakpoints, and the version, which each change that is answered ok raises; and whether `--wide` is given."""
 
-    def __init__(self, script, mode=RENDEZVOUS):
-        self.script, self.mode = script, mode
+    def __init__(self, script, mode=RENDEZVOUS, wide=False):
+        self.script, self.mode, self.wide = script, mode, wide
         self.debugger = Debugger(script, mode)
         self.breaks = Breaks()
         self.version = 0
@@ -420,7 +432,7 @@ def copied(session):
     """A session like this one, which goes on by itself."""
     copy = Session.__new__(Session)
     copy.debugger, copy.breaks, copy.version = Debugger.__new__(Debugger), Breaks(), session.version
-    copy.script, copy.mode = session.script, session.mode
+    copy.script, copy.mode, copy.wide = session.script, session.mode, session.wide
     copy.debugger.worlds, copy.debugger.steps = list(session.debugger.worlds), list(session.debugger.steps)
     copy.breaks.places = list(session.breaks.places)
     return copy
@@ -438,7 +450,7 @@ def answer_line(session, line):
     if not line:
         return None
     try:
-        request = parse(line)
+        request = parse(line, session.wide)
     except Refused as refused:
         return refused.reply()
     return session.answer(request)
@@ -450,22 +462,22 @@ def replies(session, data):
     return b''.join(reply_bytes(reply) for reply in answers if reply is not None)
 
 
-def serve(text, data, mode=RENDEZVOUS):
+def serve(text, data, mode=RENDEZVOUS, wide=False):
     """The result for the text of a script, which is None where its file can't be read, and an input of requests."""
     if not is_mode(mode):
         return BAD_MODE
     if text is None:
         return BAD_FILE
     try:
-        session = Session(read_script(text), mode)
+        session = Session(read_script(text), mode, wide)
     except Fault as fault:
         return refusal(text, fault)
     return Result(replies(session, data), b'', 0)
 
 
-def serve_packets(text, packets, mode=RENDEZVOUS):
+def serve_packets(text, packets, mode=RENDEZVOUS, wide=False):
     """The result where each read of the input gives one packet; the read of its end counts too."""
     if len(packets) < MOST_READS:
-        return serve(text, b''.join(packets), mode)
+        return serve(text, b''.join(packets), mode, wide)
     read = b''.join(packets[:MOST_READS])
-    return Result(serve(text, read[:read.rfind(b'\n') + 1], mode).output, b'mpdbg: turns\n', 3)
+    return Result(serve(text, read[:read.rfind(b'\n') + 1], mode, wide).output, b'mpdbg: turns\n', 3)

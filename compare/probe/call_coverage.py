@@ -13,17 +13,18 @@ LEFT_OUT = {
     'mpd_counter': {'tick': 'a counter without bytes'},
     'mpd_model': {
         'lines_lose_nothing': 'a law', 'ids': 'called by verify and witness_of', 'comparison_of': 'takes no memory',
+        'into_inner': 'of a device that fails',
         **dict.fromkeys(('push_compared', 'push_meant'), 'called by push_break and the request breaks')},
     'mpd_marks': {'mark_of': 'takes no memory', 'push_marked': 'called by diagnose, make_page and the words of the console', 'unmarked_texts_stay': 'a law'},
     'mpd_queue': {'disjoint': 'a law'},
     'mpd_rank': {'anew': 'of a record, called by a step that is taken again'},
-    'mpd_core': dict.fromkeys(('all_ranks_are_there', 'state_is_reached'), 'a law'),
+    'mpd_core': {'all_ranks_are_there': 'a law'},
+    'mpd_trail': {'state_is_reached': 'a law'},
     'mpd_policy': {
         **dict.fromkeys(('decisions_can_be_followed', 'wide_decisions_can_be_followed'), 'a law'), 'run_on': 'called by the request run-on',
         'ending_of': 'called by explore', 'is_untaken': 'called by steps_by_choices', **dict.fromkeys(('only_step', 'sole', 'last_hit'), BY_WORDS)},
     'mpd_lines': {
-        'run_behind': 'called by trace, plain and serve', 'push_all': 'of room that is kept, called by them',
-        'into_inner': 'of a device that fails', 'push_folded_at': BY_WORDS, 'push_folded': 'called by diagnose',
+        'run_behind': 'called by trace, plain and serve', 'push_all': 'of room that is kept, called by them', 'push_folded_at': BY_WORDS, 'push_folded': 'called by diagnose',
         **dict.fromkeys(('push_echo', 'push_long_echo'), 'of room that is kept, called with --echo'),
         **dict.fromkeys(('long_lines_keep_their_words', 'long_lines_can_nowhere_be_cut'), 'a law')},
     'mpd_frames': {
@@ -42,13 +43,16 @@ LEFT_OUT = {
         'finish': 'called by plain', 'push_found': 'called by allowed', 'trace_echoing': 'called by the program with --echo',
         **dict.fromkeys(('with_ranks', 'span_of', 'word_at'), 'takes no memory'),
         **dict.fromkeys(('read_script_for', 'read_code_for', 'code_of_text', 'text_with_ranks'), 'called by the program with --ranks')},
-    'mpd_options': {'clash': 'called by check', 'word': 'called by check'},
+    'mpd_options': {**dict.fromkeys(('clash', 'word'), 'called by check'), 'wants_traps': 'takes no memory'},
     'mpd_witness': dict.fromkeys(('written_witness_is_read', 'written_witness_of_a_leaf_is_read'), 'a law'),
     'mpd_c': {'text_ends_its_last_line': 'a law'},
     'mpd_explore': {
         **dict.fromkeys(('push_choices', 'ends_with_report'), 'called by check'), **dict.fromkeys(('witness_here', 'ends_with'), 'called by explore'),
-        **dict.fromkeys(('same_trap', 'same_ending'), 'takes no memory'),
-        **dict.fromkeys(('pieces_join_to_the_walk', 'each_piece_is_reached', 'no_choice_is_the_whole', 'no_more_is_the_whole'), 'a law')},
+        **dict.fromkeys(('same_trap', 'same_ending', 'are_asked', 'asks', 'searched'), 'takes no memory'),
+        **dict.fromkeys(('explore', 'explore_at', 'split', 'print_report'), 'called by direct/named_rows.rattle'), 'with_witnesses': 'called by explore',
+        **dict.fromkeys(('pieces_join_to_the_walk', 'each_piece_is_reached', 'no_choice_is_the_whole', 'no_more_is_the_whole',
+                         'a_deadlock_has_a_witness'), 'a law')},
+    'mpd_pool': {'check': 'called by direct/named_rows.rattle', 'limits': 'takes no memory'},
     'mpd_blame': {
         'blame_lines': 'called by check_outcomes', 'line_of_leaf': 'called by blame_lines', **dict.fromkeys(('blame_run', 'push_blame'), BY_WORDS)},
     'mpd_outcomes': {

@@ -376,7 +376,7 @@ def replied(held, request):
 
 
 def session_of(row):
-    held = session.Session(row.read(), row.mode)
+    held = session.Session(row.read(), row.mode, wide=True)
     for request in row.lines:
         session.answer_line(held, request.encode())
     return held
@@ -400,13 +400,15 @@ def session_answered(row):
     return Wanted(before, said, session_text(held))
 
 
-def request_parsed(row):
+def request_parsed(wide):
     """A request is told by the reply to it at the start of the script, a line that is none by the name of its refusal."""
-    held = session.Session(row.read(), row.mode)
-    try:
-        return no_state(session.reply_bytes(held.answer(session.parse(row.argument.encode()))).decode())
-    except session.Refused as refused:
-        return no_state(line(session.NAMES[refused.number]))
+    def wanted(row):
+        held = session.Session(row.read(), row.mode, wide)
+        try:
+            return no_state(session.reply_bytes(held.answer(session.parse(row.argument.encode(), wide))).decode())
+        except session.Refused as refused:
+            return no_state(line(session.NAMES[refused.number]))
+    return wanted
 
 
 def reply_printed(row):
@@ -441,7 +443,7 @@ def seats_text(said):
 
 
 def shared_called(row):
-    held = session.Session(row.read(), row.mode)
+    held = session.Session(row.read(), row.mode, wide=True)
     said = [replied(held, request) for request in row.lines]
     answer = replied(held, row.argument)
     return Wanted(seats_text(said), answer, seats_text([*said, answer]), line(f'settled {len(said) + 1}') + replied(held, STATE))
@@ -470,10 +472,14 @@ def plain_written(row):
         return no_state(line(f'refused {FAULT_NAMES[fault.number]} at {fault.place} line {1 + script.count(chr(10), 0, fault.place)}'), '')
 
 
-def requests_served(row):
-    held = session_of(row)
-    said = [replied(held, request) for request in row.argument.splitlines() if request]
-    return no_state(line(f'ended {len(said)}'), ''.join(said))
+def requests_served(wide):
+    """What the requests are replied, with `--wide` or without it."""
+    def wanted(row):
+        held = session_of(row)
+        held.wide = wide
+        said = [replied(held, request) for request in row.argument.splitlines() if request]
+        return no_state(line(f'ended {len(said)}'), ''.join(said))
+    return wanted
 
 
 MODELS = {
@@ -504,15 +510,17 @@ MODELS = {
     'Debugger::redo': changed(lambda row: b'redo', {'ok': 'ok'}), 'Debugger::undo': changed(lambda row: b'back', {'ok': 'ok'}),
     'Debugger::undo_to': changed(lambda row: b'goto ' + row.argument.encode(), {'ok': 'ok'}),
     'Debugger looks, forget_undone, put_steps': put_back,
-    'mpd_core::answer': changed(lambda row: row.argument.encode(), {'ok': 'ok'}),
-    'mpd_core::follow': replayed, 'mpd_core::replay': replayed, 'decide': decided, 'forced_step': forced,
+    'mpd_trail::answer': changed(lambda row: row.argument.encode(), {'ok': 'ok'}),
+    'mpd_trail::follow': replayed, 'mpd_trail::replay': replayed, 'decide': decided, 'forced_step': forced,
     'mpd_policy::run': run_by(lambda found, row: policy.run(found, breaks_of(row), row.numbers()[0])),
     'run_back': run_by(lambda found, row: policy.run_back(found, breaks_of(row))), 'Breaks': by_hand,
     **REPORTS, **CONSOLES, **PAGES, **PICTURES, **WIDES, **OUTCOMES,
-    'Session::start': session_started, 'Session::answer': session_answered, 'mpd_wire::parse': request_parsed,
+    'Session::start': session_started, 'Session::answer': session_answered, 'mpd_wire::parse': request_parsed(False),
+    'mpd_wire::parse_by': request_parsed(True),
     'mpd_wire::print': reply_printed, 'Reply::copy': reply_copied, 'same_request, same_reply': compared, 'Book::take': taken,
     'Book::new, len, audit': book_looks, 'Shared::new': shared_opened, 'Shared::call': shared_called, 'Shared::settle, code, SeatDesk': by_hand,
-    'trace': trace_written, 'plain': plain_written, 'plain_keeping': plain_written, 'run_script': requests_served, 'serve': requests_served,
+    'trace': trace_written, 'plain': plain_written, 'plain_keeping': plain_written, 'mpd_server::run': requests_served(False), 'serve': requests_served(False),
+    'run_by': requests_served(True), 'serve_by': requests_served(True),
     'TraceDesk::start': by_hand, 'Divider::new': by_hand, 'Divider looks': by_hand, 'read_options': by_hand, 'UsageFault looks': by_hand,
     'mode_of, step_of, trace_word_of, has_word': by_hand}
 

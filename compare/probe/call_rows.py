@@ -212,7 +212,7 @@ def trails():
         yield Row('Debugger looks, forget_undone, put_steps', MESSAGE, lines, spares=True)
     for steps, script in ((ENDED, MESSAGE), (STUCK, RACE), (('local 0', 'local 1', 'release'), MEETING)):
         for count, step in enumerate(steps):
-            for call in ('Debugger::apply', 'mpd_core::answer', 'Debugger::forward'):
+            for call in ('Debugger::apply', 'mpd_trail::answer', 'Debugger::forward'):
                 yield Row(call, script, steps[:count], step)
             yield Row('Debugger::undo', script, steps[:count], spares=True)
             yield Row('Debugger::undo_to', script, steps[:count], str(count // 2), spares=True)
@@ -221,10 +221,10 @@ def trails():
     yield Row('Debugger::apply', MESSAGE, (*SENT, 'goto 0'), 'local 1')
     yield Row('Debugger::apply', MESSAGE, (*SENT, 'goto 0'), 'local 0')
     yield Row('Debugger::apply', MESSAGE, SENT, 'wake 0', steady=True)
-    yield Row('mpd_core::answer', MESSAGE, SENT, 'wake 0', steady=True)
+    yield Row('mpd_trail::answer', MESSAGE, SENT, 'wake 0', steady=True)
     yield Row('Debugger::redo', MESSAGE, SENT, spares=True)
     yield Row('Debugger::undo_to', MESSAGE, SENT, '5', spares=True)
-    for call in ('mpd_core::follow', 'mpd_core::replay'):
+    for call in ('mpd_trail::follow', 'mpd_trail::replay'):
         yield Row(call, MESSAGE, (*ENDED, 'local 0', 'back', 'redo', 'redo', 'goto 9', 'goto 2', 'local 1', 'back', 'goto 0', 'back'))
     yield from runs()
 
@@ -257,7 +257,7 @@ def reports():
             yield Row('sample', script, (), limits, mode)
         yield Row('print_report', script, (), '10 100 witnesses', mode)
         yield Row('push_leaves, push_total', script, (), '10 100 witnesses', mode)
-        yield Row('mpd_check::print_report', script, (), '2 10 100 witnesses', mode)
+        yield Row('mpd_pool::print_report', script, (), '2 10 100 witnesses', mode)
         yield Row('push_leaf_text', script, (), '10 100', mode)
         yield Row('Report looks', script, (), '10 100', mode, spares=True)
     yield Row('explore', RACE, (*CHOICE, 'match 1.0 0.0'), '10 100 witnesses')
@@ -274,10 +274,11 @@ def reports():
     yield Row('witness_of', RACE, (), '10 100 1')
     yield Row('witness_of', RACE, CHOICE, '10 100 1')
     yield Row('witness_of', RACE, (), '10 100 0', spares=True)
-    for call in ('verify', 'verify_from', 'judge'):
+    for call in ('verify', 'verify_end', 'verify_from', 'judge'):
         for text in (TWO_LINES, NOT_STUCK, OTHER_CALLS):
             yield Row(call, RACE, (), text)
     yield Row('verify', RACE, (), NO_STEP)
+    yield Row('verify_end', RACE, (), NO_STEP)
     yield Row('judge', RACE, (), NO_STEP)
     yield Row('verify_from', RACE, (), NO_STEP, spares=True)
     for text in (TWO_LINES, 'leaf 0 [] done\n', TWO_LINES + 'x'):
@@ -315,11 +316,11 @@ def checks():
     yield Row('explore_by_pieces', RACE, (), '1 10 100 until')
     for workers in (1, 2, 16):
         for split_by in (0, 1):
-            yield Row('mpd_check::check_by_workers', RACE, (), f'{workers} {split_by} 10 100 witnesses')
+            yield Row('mpd_pool::check_watched', RACE, (), f'{workers} {split_by} 10 100 witnesses')
         yield Row('mpd_check::check', RACE, (), f'{workers} 1 10 100 witnesses')
-    yield Row('mpd_check::check_by_workers', RACE, CHOICE, '2 1 10 100')
+    yield Row('mpd_pool::check_watched', RACE, CHOICE, '2 1 10 100')
     for workers in (0, 17):
-        yield Row('mpd_check::check_by_workers', RACE, (), f'{workers} 1 10 100', spares=True)
+        yield Row('mpd_pool::check_watched', RACE, (), f'{workers} 1 10 100', spares=True)
         yield Row('mpd_check::check', RACE, (), f'{workers} 1 10 100', spares=True)
     for piece in (0, 1, 2):
         yield Row('check_piece', RACE, (), f'{piece} 1 10 100 witnesses')
@@ -342,7 +343,7 @@ def checks_of_ends():
         for choices in ('-', '0', '1'):
             yield Row('explore_at', script, (), f'{choices} 10 100 ends witnesses', mode)
         for workers in (1, 2):
-            yield Row('mpd_check::check_by_workers', script, (), f'{workers} 1 10 100 ends witnesses', mode)
+            yield Row('mpd_pool::check_watched', script, (), f'{workers} 1 10 100 ends witnesses', mode)
             yield Row('mpd_check::check', script, (), f'{workers} 1 10 100 ends witnesses', mode)
         for piece in (0, 1, 2):
             yield Row('check_piece', script, (), f'{piece} 1 10 100 ends witnesses', mode)
@@ -355,7 +356,7 @@ def checks_of_ends():
     for choices in ('0,0', '1,0', '1,1', '2,0', '2,1'):
         yield Row('explore_at', TWO_RACES, (), f'{choices} 10 200 ends', most=40)
     yield Row('explore_by_pieces', TWO_RACES, (), '2 10 200 ends', most=40)
-    yield Row('mpd_check::check_by_workers', TWO_RACES, (), '2 2 10 200 ends', most=40)
+    yield Row('mpd_pool::check_watched', TWO_RACES, (), '2 2 10 200 ends', most=40)
 
 
 # Requests that lead to places of a session: at the choice of a race, with breakpoints, and with steps undone.
@@ -387,7 +388,7 @@ WITH_LISTS = ('{"cmd":"enabled"}', '{"cmd":"state"}', '{"cmd":"calls","rank":0}'
               '{"cmd":"steps","from":0,"count":100}', '{"cmd":"lines","rank":0}')
 WITHOUT = ('{"cmd":"step","step":"match 2.0 0.0"}', '{"cmd":"back","count":1}', '{"cmd":"state","at":9}', '{"cmd":"next","choice":0}',
            '{"cmd":"next"}', '{"cmd":"hit"}')
-LINES = ('{"cmd":"state"}', '{"cmd":"step","step":"local 0"}', '{"cmd":"explore","runs":3,"fuel":9,"at":0}', 'x', '{"cmd":"fly"}', '{"cmd":"back"}',
+LINES = ('{"cmd":"state"}', '{"cmd":"where"}', '{"cmd":"break","kind":"rank","rank":0}', '{"cmd":"step","step":"local 0"}', '{"cmd":"explore","runs":3,"fuel":9,"at":0}', 'x', '{"cmd":"fly"}', '{"cmd":"back"}',
          '{"cmd":["a",{"b":"c"}]}')
 
 
@@ -402,7 +403,9 @@ def sessions():
         yield Row('Session::answer', RACE, lines, request, spares=True)
     for request in LINES:
         yield Row('mpd_wire::parse', RACE, (), request)
-    yield Row('mpd_wire::parse', RACE, (), ' ' * 4097, spares=True)
+        yield Row('mpd_wire::parse_by', RACE, (), request)
+    for call in ('mpd_wire::parse', 'mpd_wire::parse_by'):
+        yield Row(call, RACE, (), ' ' * 4097, spares=True)
     for request in WITH_LISTS:
         yield Row('Reply::copy', RACE, TO_CHOICE, request)
     for request in WITHOUT:
@@ -423,9 +426,9 @@ def programs():
     for call in ('plain', 'plain_keeping'):
         yield Row(call, argument=f'{MESSAGE}\n---\n{words}')
         yield Row(call, argument=f'{MISSING}---\n')
-    requests = '\n'.join((RUN, '{"cmd":"state"}', '{"cmd":"next","choice":1}', 'x', '', '{"cmd":"breaks"}', RUN, '{"cmd":"enabled"}')) + '\n'
-    yield Row('run_script', RACE, (), requests)
-    yield Row('serve', RACE, (), requests)
+    requests = '\n'.join((RUN, '{"cmd":"state"}', '{"cmd":"next","choice":1}', 'x', '', '{"cmd":"breaks"}', RUN, '{"cmd":"enabled"}', '{"cmd":"where"}')) + '\n'
+    for call in ('mpd_server::run', 'run_by', 'serve', 'serve_by'):
+        yield Row(call, RACE, (), requests)
     yield Row('TraceDesk::start', MESSAGE, by_hand=no_state('started\n'))
     yield Row('Divider::new', by_hand=no_state('made\n'))
     # the line ends behind byte 8, and three bytes of a script stand before it
@@ -433,19 +436,19 @@ def programs():
     for words, told in (('check a --runs 7 --workers 3', 'check a rendezvous 7 100000 1 3 false'), ('trace a --mode b', 'trace a b false'),
                         ('diagnose a', 'diagnose a - false -'), ('diagnose --strict a --mode b', 'diagnose a b true -'), ('diagnose --modes 7 a', 'diagnose a - 7 false -'),
                         ('diagnose a --ranks 2-5', 'diagnose a - false 2-5'), ('diagnose a --ranks=', 'diagnose a - false '),
-                        ('run a --ranks 16', 'run a rendezvous\nranks 16'), ('run a --ranks 17', 'usage false 2'), ('c a --ranks 3', 'c a\nranks 3'),
+                        ('run a --ranks 16', 'run a rendezvous false\nranks 16'), ('run a --ranks 17', 'usage false 2'), ('c a --ranks 3', 'c a\nranks 3'),
                         ('trace a --echo', 'trace a rendezvous true'), ('debug a --echo --width 132', 'debug a rendezvous - - false true 132 false 24'),
                         ('debug a', 'debug a rendezvous - - false false 80 false 24'), ('dap a --mode b', 'dap a b - - false'),
                         ('dap a --choices 3 --ends', 'dap a rendezvous 3 - true'),
                         ('debug a --view --height 10', 'debug a rendezvous - - false false 80 true 10'), ('debug a --mode b --witness c', 'debug a b - c false false 80 false 24'),
                         ('debug a --choices 3 --ends', 'debug a rendezvous 3 - true false 80 false 24'),
-                        ('serve a --port 80 --clients 2', 'serve a rendezvous 80 2'), ('verify a b', 'verify a b rendezvous'),
+                        ('serve a --port 80 --clients 2', 'serve a rendezvous 80 2 false'), ('serve a --wide --port 80 --clients 2', 'serve a rendezvous 80 2 true'), ('verify a b', 'verify a b rendezvous'),
                         ('verify a b --leaf 7', 'verify a b rendezvous 7'), ('words a --choices 3 --fuel 9', 'words a 3 rendezvous 9 false'),
                         ('words a --choices 3 --ends', 'words a 3 rendezvous 100000 true'), ('c a', 'c a'),
                         ('picture a', 'picture a rendezvous - - - 100000 false false false'), ('picture a --ends', 'picture a rendezvous - - - 100000 true false false'),
                         ('picture a --plain', 'picture a rendezvous - - - 100000 false true false'), ('picture a --large', 'picture a rendezvous - - - 100000 false false true'), ('page a --runs 7 --hide', 'page a rendezvous - - - 7 100000 100000 false true'),
                         ('picture a --choices 1 --witness 2 --words 3 --fuel 4 --mode 5', 'picture a 5 1 2 3 4 false false false'),
-                        ('run a', 'run a rendezvous'), ('check a --witness', 'check a rendezvous 1000 100000 1 4 true'),
+                        ('run a', 'run a rendezvous false'), ('run a --wide', 'run a rendezvous true'), ('check a --witness', 'check a rendezvous 1000 100000 1 4 true'),
                         ('check a --runs 0', 'usage false 2'), ('fly', 'usage false 2'), ('--help', 'usage true 0')):
         yield Row('read_options', argument=words, by_hand=no_state(told + '\n'))
     for words, told in (('fly', 'false 2 3'), ('--help', 'true 0 3')):

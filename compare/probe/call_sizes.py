@@ -79,7 +79,7 @@ def starts():
     yield Row('Core::copy', LARGEST, tuple(f'local {rank}' for rank in range(16)), what='16 ranks with all cells and handles')
     yield Row('mpd_trace::show', LARGEST, tuple(f'local {rank}' for rank in range(16)), most=FEW, what='16 ranks with all cells and handles')
     yield Row('mpd_policy::run', ENDLESS, ('local 0', 'back'), '20000', most=FEW)
-    for call in ('mpd_core::follow', 'mpd_core::replay'):
+    for call in ('mpd_trail::follow', 'mpd_trail::replay'):
         yield Row(call, ENDLESS, ('local 0', 'back', 'redo') * 2000, most=FEW, what='6,000 commands')
 
 
@@ -102,7 +102,7 @@ def to_the_end():
 
 def reports():
     text = 'leaf 0 [] deadlock 0.0\nwitness 0: ' + ', '.join(to_the_end()) + '\n'
-    for call in ('verify', 'verify_from', 'judge'):
+    for call in ('verify', 'verify_end', 'verify_from', 'judge'):
         yield Row(call, LONG, (), text, most=FEW, what='4,002 steps')
     for call in ('read_witness', 'read_report_witness'):
         yield Row(call, argument=text, most=FEW, what='4,002 steps')
@@ -113,8 +113,8 @@ def reports():
                            ('check_piece', '19 2 200 1000'), ('count_pieces', '0 3 200 1000')):
         yield Row(call, SIX, (), argument, most=FEW, what=f'120 leaves {argument}')
     for workers in (1, 2, 16):
-        yield Row('mpd_check::print_report', SEVEN, (), f'{workers} 6000 1000', by_hand=all_orders(), most=20, what=f'5,040 leaves by {workers} workers')
-        yield Row('mpd_check::check_by_workers', SIX, (), f'{workers} 2 200 1000', most=20, what=f'120 leaves by {workers} workers')
+        yield Row('mpd_pool::print_report', SEVEN, (), f'{workers} 6000 1000', by_hand=all_orders(), most=20, what=f'5,040 leaves by {workers} workers')
+        yield Row('mpd_pool::check_watched', SIX, (), f'{workers} 2 200 1000', most=20, what=f'120 leaves by {workers} workers')
         yield Row('mpd_check::check', SIX, (), f'{workers} 2 200 1000 witnesses', most=20, what=f'120 leaves by {workers} workers')
 
 

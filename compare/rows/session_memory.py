@@ -23,11 +23,12 @@ HEAD_TO_HEAD = b'mpd 1; ranks 2; var x;\nsend rank to 1 - rank tag 5;\nrecv x fr
 
 
 class Asked(NamedTuple):
-    """A session: its script, the mode, and its lines."""
+    """A session: its script, the mode, its lines, and whether `--wide` is given."""
     name: str
     script: bytes
     mode: str
     lines: tuple
+    wide: bool = True
 
     @property
     def data(self):
@@ -37,7 +38,7 @@ class Asked(NamedTuple):
 def looks_behind(line):
     """What is asked behind a line, so that it is seen what it has changed."""
     try:
-        command = parse(line).command
+        command = parse(line, True).command
     except Refused:
         return ()
     return (STATE,) * (command in CHANGING) + (BREAKS,) * (command in ('break', 'unbreak'))
@@ -97,7 +98,7 @@ def problem(asked, result, refused):
         return f'ended behind {result.output[-80:]}' if result.output else None
     if result.status != 0 or result.errors:
         return f'status {result.status}, {result.errors}'
-    session, rest = Session(read_script(asked.script), asked.mode), iter(result.output.splitlines(keepends=True))
+    session, rest = Session(read_script(asked.script), asked.mode, asked.wide), iter(result.output.splitlines(keepends=True))
     for line in filter(None, lines_of(asked.data)):
         said = next(rest, b'')
         if said == REFUSED and takes_memory(line):

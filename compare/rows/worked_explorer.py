@@ -131,13 +131,24 @@ CHECKS = (
              'leaf 0 [0 0] done; leaf 1 [1] leftovers 1.0; leaves 2 more no', 0),
     CheckRow(BY_VALUE.replace('STATEMENT', 'if x == 2 { while 1 { } }'), Asked(fuel=50),
              'leaf 0 [0] leftovers 2.0; leaf 1 [1] cut; leaves 2 more no', 0),
-    # a trap is found too, and has a witness; of what isn't listed nothing is said
+    # a trap is found too, and has a witness where that is asked for; of what isn't listed nothing is said
     CheckRow(LOW_WANTED, Asked(witnesses=True), f'leaf 0 [0] deadlock 2.0; witness 0: {SIX}, match 1.0 0.0, wake 0, local 0, wake 1; '
+             'leaf 1 [1] trap 0 assert; leaves 2 more no', 1),
+    CheckRow(LOW_WANTED, Asked(BUFFERED, witnesses=True), 'leaf 0 [0] leftovers 2.0; leaf 1 [1] trap 0 assert; leaves 2 more no', 1),
+    CheckRow(ONE_TRAPPED, Asked(witnesses=True), 'leaf 0 [] trap 0 assert; leaves 1 more no', 1),
+    CheckRow(ONE_TRAPPED, Asked(witnesses=True, complete=True, split=3, workers=1, runs=1), 'leaf 0 [] trap 0 assert; leaves 1 more no', 1),
+    *(CheckRow(ONE_TRAPPED, asked._replace(witnesses=True), 'leaf 0 [] trap 0 assert; witness 0: local 0, local 1, local 1; leaves 1 more no', 1)
+      for asked in (Asked(until=True), Asked(ends=True))),
+    CheckRow(ONE_TRAPPED, Asked(witnesses=True, group=True), 'end 0 leaves 1 first 0 trap 0 assert; witness 0: local 0, local 1, local 1; leaves 1 more no', 1),
+    # traps are asked for beside witnesses alone, which is told before all else
+    *(CheckRow(script, asked._replace(traps=True), '', 2, 'mpdbg: --traps wants --witness')
+      for script in (ONE_TRAPPED, None) for asked in (Asked(), Asked('fast'), Asked(ends=True, group=True), Asked(piece=0, complete=True))),
+    CheckRow(LOW_WANTED, Asked(witnesses=True, traps=True), f'leaf 0 [0] deadlock 2.0; witness 0: {SIX}, match 1.0 0.0, wake 0, local 0, wake 1; '
              f'leaf 1 [1] trap 0 assert; witness 1: {SIX}, match 2.0 0.0, wake 0, local 0, wake 2; leaves 2 more no', 1),
-    CheckRow(LOW_WANTED, Asked(BUFFERED, witnesses=True), 'leaf 0 [0] leftovers 2.0; leaf 1 [1] trap 0 assert; '
+    CheckRow(LOW_WANTED, Asked(BUFFERED, witnesses=True, traps=True), 'leaf 0 [0] leftovers 2.0; leaf 1 [1] trap 0 assert; '
              f'witness 1: {SIX}, wake 1, wake 2, match 2.0 0.0, wake 0, local 0; leaves 2 more no', 1),
     CheckRow(LOW_WANTED, Asked(BUFFERED, runs=1, split=0, witnesses=True), 'leaf 0 [0] leftovers 2.0; leaves 1 more yes', 0),
-    CheckRow(ONE_TRAPPED, Asked(witnesses=True), 'leaf 0 [] trap 0 assert; witness 0: local 0, local 1, local 1; leaves 1 more no', 1),
+    CheckRow(ONE_TRAPPED, Asked(witnesses=True, traps=True), 'leaf 0 [] trap 0 assert; witness 0: local 0, local 1, local 1; leaves 1 more no', 1),
     # witnesses of barriers
     CheckRow(ONE_ENDED, Asked(witnesses=True), 'leaf 0 [] deadlock 1.0; witness 0: local 0, local 1, local 1; leaves 1 more no', 1),
     CheckRow(TWICE, Asked(BUFFERED, witnesses=True), 'leaf 0 [] deadlock 0.1; witness 0: local 0, local 1, release, local 0, local 0, '

@@ -102,7 +102,7 @@ REPORTS = (
     CheckRow(BY_THIRD, Asked(runs=1), 'leaf 0 [0] leftovers 2.0 3.0; leaf 1 [1] leftovers 1.0 3.0; leaf 2 [2 0 0] done; leaves 3 more yes', 0),
     CheckRow(BY_FIRST, Asked(runs=3, split=0), ALL_BY_FIRST.replace('; leaf 3 [2] leftovers 1.0 2.0; leaves 4 more no', '; leaves 3 more yes'), 0),
     CheckRow(BY_FIRST, Asked(runs=1, split=2, complete=True), ALL_BY_FIRST, 0),
-    CheckRow(LOW_WANTED, Asked(BUFFERED, runs=1, witnesses=True), 'leaf 0 [0] leftovers 2.0; leaf 1 [1] trap 0 assert; '
+    CheckRow(LOW_WANTED, Asked(BUFFERED, runs=1, witnesses=True, traps=True), 'leaf 0 [0] leftovers 2.0; leaf 1 [1] trap 0 assert; '
              f'witness 1: {SIX}, wake 1, wake 2, match 2.0 0.0, wake 0, local 0; leaves 2 more no', 1),
     CheckRow(gathering(12, 1), Asked(runs=1), gathered_in_pieces(12, 1, 1, 1, 'no'), 0),
     CheckRow(gathering(12, 2), Asked(runs=10), gathered_in_pieces(12, 2, 1, 10, 'no'), 0),
@@ -122,6 +122,10 @@ PARTS = (
     CheckRow(THREE, Asked(piece=0), 'leaf 0 [0] done; leaves 1 more no', 0),
     CheckRow(THREE, Asked(piece=1, witnesses=True), f'leaf 0 [1] deadlock 0.1 1.0; witness 0: {STUCK}; leaves 1 more no', 1),
     CheckRow(THREE, Asked(piece=0, split=0, witnesses=True), WITNESSED, 1),
+    # the part of a piece has witnesses of deadlocks alone, as the plain report has, and of traps where that is asked for
+    CheckRow(LOW_WANTED, Asked(BUFFERED, piece=1, witnesses=True), 'leaf 0 [1] trap 0 assert; leaves 1 more no', 1),
+    CheckRow(LOW_WANTED, Asked(BUFFERED, piece=1, witnesses=True, traps=True),
+             f'leaf 0 [1] trap 0 assert; witness 0: {SIX}, wake 1, wake 2, match 2.0 0.0, wake 0, local 0; leaves 1 more no', 1),
     CheckRow(BY_FIRST, Asked(piece=0), 'leaf 0 [0 0 0] done; leaf 1 [0 1 0] done; leaves 2 more no', 0),
     CheckRow(BY_FIRST, Asked(piece=0, runs=1), 'leaf 0 [0 0 0] done; leaves 1 more yes', 0),
     CheckRow(BY_FIRST, Asked(piece=2, runs=1), 'leaf 0 [2] leftovers 1.0 2.0; leaves 1 more no', 0),

@@ -4,6 +4,7 @@ Each was worked out by hand from the rules (docs/SESSIONS.md). A script's first 
 the same, and what takes a million steps too, which the model isn't asked.
 """
 
+import re
 from typing import NamedTuple, Optional
 from unittest import mock
 
@@ -29,12 +30,13 @@ ONE_WAIT = 'mpd 1; ranks 2; var x; req r;\nif rank == 0 {\nirecv r x from 1 tag 
 
 
 class Dialogue(NamedTuple):
-    """What it is of, a script in a mode, the lines with the reply to each, and how many steps a trail may have where that is less."""
+    """What it is of, a script in a mode, the lines with the reply to each, how many steps a trail may have where that is less, and whether `--wide` is given."""
     what: str
     script: str
     turns: tuple
     mode: str = RENDEZVOUS
     limit: Optional[int] = None
+    wide: bool = True
 
     def asked(self):
         """The input."""
@@ -43,6 +45,15 @@ class Dialogue(NamedTuple):
     def wanted(self):
         """The replies."""
         return ''.join(f'{reply}\n' for _, reply in self.turns if reply is not None).encode()
+
+    def is_plain(self):
+        """Whether no line of it has what is read with `--wide` alone, so that it is answered the same without."""
+        return self.wide and not any(IS_WIDE.search(line) for line, _ in self.turns)
+
+
+# What is read with `--wide` alone: of a line of a dialogue.
+IS_WIDE = re.compile('"cmd":"(run-on|hit|script|where|all|decision|steps|lines|explain)"|"kind":"(handle|rank)"|"(is|value)":|"kind":"(line|match)".*"rank":')
+BOTH = (True, False)
 
 
 def no(name):
@@ -458,7 +469,26 @@ HITS = (
         ('{"cmd":"back","count":1}', deep(5, 3)), (HIT, ok(3)), ('{"choice":0,"cmd":"next"}', stepped(6, 'match 1.0 0.0', 4)), (HIT, hits(0, 4)),
         (NEXT, stepped(7, 'wake 1', 5)), (HIT, ok(5)))))
 
-DIALOGUES = RUNS_AND_CHOICES + LINES_BEHIND + REFUSALS + STATES + LINES + RUNS_ON + TOLD + HITS
+# Without `--wide`: what is refused changes nothing, and the version stays.
+PLAIN = (
+    Dialogue('each command, kind and field that is read with `--wide` alone', ON_LINES, (
+        (RUN_ON, no('unknown-command')), (HIT, no('unknown-command')), ('{"cmd":"script"}', no('unknown-command')), (WHERE, no('unknown-command')),
+        ('{"cmd":"all"}', no('unknown-command')), (DECISION, no('unknown-command')), (steps(0, 1), no('unknown-command')),
+        (call_lines(0), no('unknown-command')), (EXPLAIN, no('unknown-command')),
+        # whatever the fields are, and the version
+        ('{"cmd":"run-on"}', no('unknown-command')), ('{"cmd":"hit","at":9}', no('unknown-command')), ('{"cmd":"all","x":null}', no('unknown-command')),
+        (handle_break(0, 0), no('bad-field')), ('{"cmd":"break","kind":"rank","rank":0}', no('bad-field')),
+        ('{"cmd":"break","kind":"line","line":10,"rank":0}', no('bad-field')), ('{"cmd":"break","kind":"match","line":7,"rank":1}', no('bad-field')),
+        ('{"cell":0,"cmd":"break","is":"==","kind":"line","line":10,"value":0}', no('bad-field')),
+        ('{"cell":0,"cmd":"break","is":"==","kind":"line","line":10,"rank":0,"value":0}', no('bad-field')),
+        ('{"cmd":"break","kind":"line","line":10,"rank":9,"at":7}', no('bad-field')),
+        (BREAKS, '{"breaks":[],"ok":true,"version":0}'), ('{"cmd":"break","kind":"line","line":10}', set_break(0, 1)),
+        ('{"cmd":"break","kind":"match","line":7}', set_break(1, 2)), ('{"cmd":"break","kind":"change","rank":1,"cell":0}', set_break(2, 3)),
+        (RUN, ran(5, 5, 'break', 4, 1)), (RUN_ON, no('unknown-command')), (RUN, ran(6, 1, 'break', 5, 0)), (HIT, no('unknown-command')),
+        ('{"at":5,"cmd":"next"}', stepped(7, 'local 0', 6)), (RUN_BACK, ran(5, 2, 'break', 7, 0))), wide=False),
+)
+
+DIALOGUES = RUNS_AND_CHOICES + LINES_BEHIND + REFUSALS + STATES + LINES + RUNS_ON + TOLD + HITS + PLAIN
 
 # Inputs that don't end in a line feed, of the script FIRST, with what is answered.
 ENDINGS = (
@@ -467,7 +497,7 @@ ENDINGS = (
     (STATE + ' ' * (4096 - len(STATE)), f'{START_OF_FIRST}\n'), (STATE + ' ' * (4096 - len(STATE)) + '\r', no('line-too-long') + '\n'),
     ('x' * 4097, no('line-too-long') + '\n'), ('x' * 9000, no('line-too-long') + '\n'))
 
-# Lines that are told apart without a session: each with the number of its refusal, or None where it is a request.
+# Lines that are told apart without a session, of one with `--wide`: each with the number of its refusal, or None where it is a request.
 TESTED = (
     # no JSON text
     (b'{', 42), (b'}', 42), (b'{}}', 42), (b'{"cmd":"state"', 42), (b'{"cmd":"state"} x', 42), (b'{"cmd":"state"}{"cmd":"state"}', 42),
@@ -542,6 +572,27 @@ TESTED = (
     (b'{"cmd":"unbreak","break":0}', None), (b'{"cmd":"breaks"}', None), (b'{"cmd":"hit"}', None), (b'{"cmd":"explore","runs":0,"fuel":0}', None),
     (b'{"cmd":"state"}' + b' ' * 4081, None), (b'{"cmd":"state"}' + b' ' * 4082, 41), (b'\xff' * 4097, 41))
 
+# The same of a session without `--wide`: its commands are these sixteen, and its kinds of breakpoints these three, with these fields.
+TESTED_PLAIN = (
+    (b'{"cmd":"step","step":"local 0"}', None), (b'{"cmd":"next"}', None), (b'{"cmd":"next","choice":0}', None), (b'{"cmd":"run","max":1}', None),
+    (b'{"cmd":"back","count":1}', None), (b'{"cmd":"redo","count":1}', None), (b'{"cmd":"goto","depth":0}', None), (b'{"cmd":"run-back"}', None),
+    (b'{"cmd":"enabled"}', None), (b'{"cmd":"state"}', None), (b'{"cmd":"vars","rank":0}', None), (b'{"cmd":"calls","rank":0}', None),
+    (b'{"cmd":"why","rank":0,"call":0}', None), (b'{"cmd":"break","kind":"line","line":1}', None), (b'{"cmd":"break","kind":"match","line":1}', None),
+    (b'{"cmd":"break","kind":"change","rank":0,"cell":0}', None), (b'{"cmd":"unbreak","break":0}', None), (b'{"cmd":"breaks"}', None),
+    (b'{"cmd":"explore","runs":1,"fuel":1}', None), (b'{"at":0,"cmd":"state"}', None),
+    # the nine others, whatever their fields
+    (b'{"cmd":"run-on","max":1}', 44), (b'{"cmd":"run-on"}', 44), (b'{"cmd":"hit"}', 44), (b'{"cmd":"hit","break":0}', 44), (b'{"cmd":"script"}', 44),
+    (b'{"cmd":"where"}', 44), (b'{"cmd":"all"}', 44), (b'{"cmd":"decision"}', 44), (b'{"cmd":"steps","from":0,"count":1}', 44), (b'{"cmd":"steps"}', 44),
+    (b'{"cmd":"lines","rank":0}', 44), (b'{"cmd":"explain"}', 44), (b'{"at":null,"cmd":"explain"}', 44), (b'{"cmd":"state","cmd":"where"}', 44),
+    (b'{"cmd":"wher\\u0065"}', 44), (b'{"cmd":"fly"}', 44),
+    # the two other kinds, and the five fields
+    (b'{"cmd":"break","kind":"handle","rank":0,"handle":0}', 43), (b'{"cmd":"break","kind":"rank","rank":0}', 43),
+    (b'{"cmd":"break","kind":"line","line":1,"rank":0}', 43), (b'{"cmd":"break","kind":"match","line":1,"rank":0}', 43),
+    (b'{"cmd":"break","kind":"line","line":1,"cell":0,"is":"==","value":0}', 43), (b'{"cmd":"break","kind":"line","line":1,"cell":0}', 43),
+    (b'{"cmd":"break","kind":"line","line":1,"is":"=="}', 43), (b'{"cmd":"break","kind":"line","line":1,"value":0}', 43),
+    (b'{"cmd":"break","kind":"line","line":1,"rank":0,"cell":0,"is":"==","value":0}', 43), (b'{"cmd":"break","kind":"rank","kind":"line","line":1}', None),
+    (b'{"cmd":"break","kind":"Line","line":1}', 43), (b'{"cmd":"break","kind":"line"}', 43), (b'{"cmd":"break","kind":"change","rank":0}', 43))
+
 # Inputs of the script FIRST in pieces, each of which is one read, with what is answered: lines as long as they may be and longer, whose
 # ends come by themselves, and a character and an escape that are cut.
 FULL_LINE = STATE + ' ' * (4096 - len(STATE))
@@ -583,10 +634,11 @@ def dialogue_problem(row):
     """What the model replies otherwise than a dialogue says; None where nothing is."""
     limit = debugger.MOST_STEPS if row.limit is None else row.limit
     with mock.patch.object(debugger, 'MOST_STEPS', limit):
-        said = replies(Session(read_script(row.script.encode()), row.mode), row.asked())
-    if said == row.wanted():
+        said = [replies(Session(read_script(row.script.encode()), row.mode, wide), row.asked()) for wide in (BOTH if row.is_plain() else (row.wide,))]
+    wrong = next((one for one in said if one != row.wanted()), None)
+    if wrong is None:
         return None
-    lines = zip(said.split(b'\n'), row.wanted().split(b'\n'))
+    lines = zip(wrong.split(b'\n'), row.wanted().split(b'\n'))
     return next((f'replied {line.decode()}, and not {due.decode()}' for line, due in lines if line != due), 'another number of replies')
 
 
@@ -595,32 +647,32 @@ def ending_problem(data, wanted):
     return None if said == Result(wanted.encode(), b'', 0) else f'{said}'
 
 
-def number_of_refusal(line):
+def number_of_refusal(line, wide):
     """The number by which a line is refused before a session is asked; None where it is a request."""
     try:
-        parse(line)
+        parse(line, wide)
     except Refused as refused:
         return refused.number
     return None
 
 
-def tested_problem(line, number):
-    said = number_of_refusal(line)
+def tested_problem(line, number, wide):
+    said = number_of_refusal(line, wide)
     return None if said == number else f'refused {said}, and not {number}'
 
 
-def tested_input():
+def tested_input(rows=TESTED):
     """All these lines in one input, each with its end."""
-    return b''.join(line + b'\n' for line, _ in TESTED)
+    return b''.join(line + b'\n' for line, _ in rows)
 
 
-def tested_differently(output):
+def tested_differently(output, rows=TESTED):
     """The lines that are refused otherwise in one session, by its replies; another number of replies is one too."""
     texts = output.decode().split('\n')
-    if len(texts) != len(TESTED) + 1:
+    if len(texts) != len(rows) + 1:
         return [f'{len(texts) - 1} replies']
-    refusals = {number: no(NAMES[number]) for _, number in TESTED if number}
-    said = [(line, number, next((known for known, text in refusals.items() if text == reply), None)) for (line, number), reply in zip(TESTED, texts)]
+    refusals = {number: no(NAMES[number]) for _, number in rows if number}
+    said = [(line, number, next((known for known, text in refusals.items() if text == reply), None)) for (line, number), reply in zip(rows, texts)]
     return [f'{line[:80]!r} was refused {by}, and not {number}' for line, number, by in said if by != number]
 
 
@@ -646,7 +698,7 @@ def turns_problem():
 
 def example_problem(name):
     """What the model replies otherwise than an example of a session says; None where nothing is."""
-    said = serve(open_example(f'{name}.mpd'), open_example(f'{name}.requests'))
+    said = serve(open_example(f'{name}.mpd'), open_example(f'{name}.requests'), wide=True)
     return None if said == Result(open_example(f'{name}.replies'), b'', 0) else f'{said}'
 
 
@@ -661,6 +713,7 @@ def problems():
     yield from dialogue_problems(DIALOGUES)
     yield from ((f'an ending, {data[:50]!r}', ending_problem(data, wanted)) for data, wanted in ENDINGS)
     yield from ((f'pieces, {pieces[-1][:50]!r}', ending_problem(''.join(pieces), f'{wanted}\n')) for pieces, wanted in IN_PIECES)
-    yield from ((f'a line, {line[:80]!r}', tested_problem(line, number)) for line, number in TESTED)
+    yield from ((f'a line, {line[:80]!r}', tested_problem(line, number, True)) for line, number in TESTED)
+    yield from ((f'a line without --wide, {line[:80]!r}', tested_problem(line, number, False)) for line, number in TESTED_PLAIN)
     yield 'the last version', last_version_problem()
     yield 'reads of a session', turns_problem()

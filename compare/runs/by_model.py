@@ -73,8 +73,10 @@ def words_of(words):
 
 def run(words):
     """What `run` gives."""
-    chosen = parser_of().parse_args(words)
-    return session.serve(file_content(chosen.file), sys.stdin.buffer.read(), chosen.mode)
+    parser = parser_of()
+    parser.add_argument('--wide', action='store_true')
+    chosen = parser.parse_args(words)
+    return session.serve(file_content(chosen.file), sys.stdin.buffer.read(), chosen.mode, chosen.wide)
 
 
 def debug(words):

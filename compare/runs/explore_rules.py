@@ -296,7 +296,8 @@ def text_wrong(random, seen, text, met):
     wrong, (leaves, more) = [], seen.found
     for runs in (random.randint(1, len(leaves)), len(leaves)):
         found, witnesses = Report(leaves[:runs], more or runs < len(leaves)), random.random() < 0.5
-        said, wanted = explorer.answer(text, Asked(seen.mode, runs, seen.fuel, witnesses, split=0)), int(is_bad(found.leaves))
+        said = explorer.answer(text, Asked(seen.mode, runs, seen.fuel, witnesses, split=0, traps=witnesses))
+        wanted = int(is_bad(found.leaves))
         *lines, behind = said.output.decode().split('\n')
         if behind or [told_by(line) for line in lines] != list(lines_due(found, witnesses)):
             wrong.append('the text of a report')
@@ -348,14 +349,14 @@ def pieces_wrong(random, seen, text, met):
     is_whole = not any(found.more for found in parts)
     due_report = up_to_bad_due(listed, is_whole) if asked.until else Report(listed, not is_whole)
     said = explorer.answer(text, asked._replace(workers=random.randint(1, 16)))
-    if said.output.decode() != explorer.report_text(due_report, asked.witnesses) or said.status != is_bad(due_report.leaves):
+    if said.output.decode() != explorer.report_text(due_report, explorer.witnesses_of(asked)) or said.status != is_bad(due_report.leaves):
         wrong.append(f'a check by {split}, {asked}')
     alone = [explorer.answer(text, asked._replace(until=False, piece=number)).output.decode() for number in range(len(cut))]
-    if alone != [explorer.report_text(found, asked.witnesses) for found in parts]:
+    if alone != [explorer.report_text(found, explorer.witnesses_of(asked._replace(until=False))) for found in parts]:
         wrong.append(f'the text of a part by {split}')
     one = random.randrange(len(parts))
     ended = explorer.answer(text, asked._replace(until=True, piece=one)).output.decode()
-    if ended != explorer.report_text(up_to_bad_due(parts[one].leaves, not parts[one].more), asked.witnesses):
+    if ended != explorer.report_text(up_to_bad_due(parts[one].leaves, not parts[one].more), explorer.witnesses_of(asked._replace(until=True))):
         wrong.append(f'piece {one} by {split} up to its first deadlock')
     if joined_texts(alone) != explorer.answer(text, asked._replace(until=False)).output.decode():
         wrong.append(f'the parts by {split}, joined')

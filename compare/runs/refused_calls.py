@@ -8,7 +8,7 @@
 Each row (call_rows.py) is one call, made between two marks. First nothing is refused: the answer, the state before it and behind it must
 be what the model says, or what was worked out by hand (call_models.py). Then each request that was made between the marks is refused,
 alone, and with all behind it there. The call must answer as ever, or want of memory; and then the state is the one before it, and the same
-call, made again with memory there, answers as if nothing had been. `trace`, `plain`, `serve`, `run_script` and `run_console` may go on with a line that
+call, made again with memory there, answers as if nothing had been. `trace`, `plain`, `serve`, `mpd_server::run` and `run_console` may go on with a line that
 says so in place of an answer. A row of a call that takes no memory has made no request, and says the same where each is refused.
 
 A call of which no row was answered want of memory fails, and so does a check by workers in which nothing that a worker was refused was
@@ -47,9 +47,10 @@ SECONDS = 60
 # Before a program that is to have a stack of 512 KiB (docs/LANGUAGE.md, "Limits").
 SMALL_STACK = ('sh', '-c', 'ulimit -S -s 512 && exec "$0" "$@"')
 # Of these, which go on behind a refusal, each line is judged by itself.
-BY_LINES = ('mpd_core::follow', 'trace', 'plain', 'plain_keeping', 'serve', 'run_script', *call_consoles.TALKS)
+SESSIONS, WIDE_SESSIONS = ('serve', 'mpd_server::run'), ('serve_by', 'run_by')
+BY_LINES = ('mpd_trail::follow', 'trace', 'plain', 'plain_keeping', *SESSIONS, *WIDE_SESSIONS, *call_consoles.TALKS)
 # What threads ask for isn't the same each time, and what a worker is refused its caller does.
-BY_WORKERS = ('mpd_check::check_by_workers', 'mpd_check::check', 'check_listing')
+BY_WORKERS = ('mpd_pool::check_watched', 'mpd_check::check', 'check_listing')
 # Of the reports that the shim writes, each run has its own.
 NUMBERS = itertools.count()
 SECTION = re.compile(r'^= (state|answer|memory|end)\n', re.M)
@@ -131,15 +132,15 @@ def problem_of_replies(row, seen):
 
 def problem_by_lines(row, seen, sound):
     """What is wrong with the lines that were written, of which some may be refused memory."""
-    if row.call == 'mpd_core::follow':
+    if row.call == 'mpd_trail::follow':
         return problem_of_replies(row, seen)
     if seen.names != ['state', 'answer', 'state', 'end'] or seen.texts('answer') != [sound.answer]:
         return difference(seen.sections, told(sound))
     result = Result(seen.texts('end')[0].encode(), b'', 0)
     if row.call in call_consoles.TALKS:
         return call_consoles.problem(row, result.output, seen.refused)
-    if row.call in ('serve', 'run_script'):
-        asked = session_memory.Asked(row.call, row.script.encode(), row.mode, tuple(row.argument.encode().splitlines()))
+    if row.call in SESSIONS + WIDE_SESSIONS:
+        asked = session_memory.Asked(row.call, row.script.encode(), row.mode, tuple(row.argument.encode().splitlines()), row.call in WIDE_SESSIONS)
         return session_memory.problem(asked, result, seen.refused)
     data = row.argument if row.call.startswith('plain') else f'{row.script}\n---\n{row.argument}'
     if divided(data.encode())[1]:

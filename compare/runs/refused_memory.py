@@ -265,9 +265,9 @@ def try_session(program, asked, shim):
         file.flush()
 
         def run(**refused):
-            return shim.run(program, asked.data, ('run', file.name, '--mode', asked.mode), **refused)
+            return shim.run(program, asked.data, ('run', file.name, '--mode', asked.mode, *('--wide',) * asked.wide), **refused)
 
-        if run()[0] != session.serve(asked.script, asked.data, asked.mode):
+        if run()[0] != session.serve(asked.script, asked.data, asked.mode, asked.wide):
             print(f'{asked.name}: not what the model answers')
             return 1
         return refuse_each(asked.name, run, lambda *seen: session_memory.problem(asked, *seen), session_memory.kind_of, MET_IN_SESSIONS)

@@ -34,9 +34,10 @@ from model.debugger import Result
 from model.files import held
 from model.language import read_up_to
 from model.modes import has_slots, know_modes, slots_of
-from model.session import FIELDS, NAMES, lines_of, read_json
+from model.session import FIELDS, NAMES, WIDE_COMMANDS, WIDE_KINDS, Refused, lines_of, parse, read_json
 from rows import worked_slots, worked_waitany
-from rows.worked_sessions import DIALOGUES, ENDINGS, FIRST, IN_PIECES, LONG, TESTED, dialogue_problem, tested_differently, tested_input, tested_problem
+from rows.worked_sessions import (BOTH, DIALOGUES, ENDINGS, FIRST, IN_PIECES, LONG, TESTED, TESTED_PLAIN, dialogue_problem, tested_differently, tested_input,
+                                  tested_problem)
 from runs import driving
 from runs.driving import first_different
 from started.programs import run_at_once, run_in_packets
@@ -56,7 +57,8 @@ TOLD = ('a null', 'a number below 0', 'a number printed', 'outcome done', 'outco
         'a run on that stops behind a single candidate', 'decision forced', 'decision choice', 'decision leaf', 'a choice of a single candidate',
         'no line', 'a rank that can go on', 'a partner', 'no partner', 'an explanation', 'nothing to explain', 'steps ahead', 'no steps listed',
         'a breakpoint that the last step hits', 'no breakpoint that the last step hits',
-        'an array declared', 'a handle declared')
+        'an array declared', 'a handle declared',
+        'a wide command without --wide', 'a wide kind without --wide', 'a wide field without --wide')
 # What must be met of version 2.
 TOLD_OF_2 = ('a choice of wakes by a handle', 'a wake by a handle', 'a wait for any', 'a wait for any of nothing')
 # What must be met of modes of slots.
@@ -68,7 +70,7 @@ MUST_MEET = (*(f'{command} ok' for command in FIELDS), *NAMES.values(), *(f'stop
 
 def words_of(case, folder):
     """The words that have a program answer a session, with its script in a folder."""
-    return ('run', held(folder, 'script.mpd', case.script), *(() if case.mode is None else ('--mode', case.mode)))
+    return ('run', held(folder, 'script.mpd', case.script), *(() if case.mode is None else ('--mode', case.mode)), *('--wide',) * case.wide)
 
 
 def run(chosen, case):
@@ -165,7 +167,26 @@ def met_in(case, wanted):
     """The same of a session."""
     if wanted.status:
         return Counter({'a script that is refused': 1})
-    return case.met + met_in_session(case.data, wanted.output) + Counter({case.way: 1}) + met_of_slots(case, wanted)
+    return case.met + met_in_session(case.data, wanted.output) + Counter({case.way: 1}) + met_of_slots(case, wanted) + met_by_wide(case)
+
+
+def met_by_wide(case):
+    """What is refused in a session for want of `--wide` alone."""
+    return Counter() if case.wide else Counter(filter(None, map(wide_alone, filter(None, lines_of(case.data)))))
+
+
+def wide_alone(line):
+    """What a line has that is read with `--wide` alone; None where it has nothing, or is refused with it too."""
+    try:
+        request = parse(line, True)
+    except Refused:
+        return None
+    try:
+        parse(line)
+    except Refused:
+        kind = request.fields.get('kind')
+        return f'a wide {"command" if request.command in WIDE_COMMANDS else "kind" if kind in WIDE_KINDS else "field"} without --wide'
+    return None
 
 
 def met_of_slots(case, wanted):
@@ -205,7 +226,8 @@ def worked_cases(chosen):
         if row.limit is None:
             pieces = tuple(f'{line}\n'.encode('latin-1') for line, _ in row.turns)
             for way in ('at once', 'turn by turn')[:1 if row in LONG else 2]:
-                yield Case(row.what, row.script.encode(), row.mode, pieces, way, Counter()), row.wanted()
+                for wide in BOTH if row.is_plain() else (row.wide,):
+                    yield Case(row.what, row.script.encode(), row.mode, pieces, way, Counter(), wide), row.wanted()
     for data, wanted in ENDINGS:
         for way in WAYS if data else ('at once',):
             yield Case(f'ending {data[:30]!r}', FIRST.encode(), None, tuple(cut(data.encode())), way, Counter()), wanted.encode()
@@ -229,11 +251,12 @@ def compare_worked(chosen, pool):
     """Compares the worked dialogues; gives how many differ, and what was met."""
     cases = list(worked_cases(chosen))
     problems = [problem for problem in pool.map(worked_problem, [chosen] * len(cases), *zip(*cases)) if problem]
-    result = run(chosen, Case('lines', FIRST.encode(), None, (tested_input(),), 'at once', Counter()))
-    problems += tested_differently(result.output) + [f'{result.status}'] * (result.status != 0)
+    for rows, wide in ((TESTED, True), (TESTED_PLAIN, False)):
+        result = run(chosen, Case('lines', FIRST.encode(), None, (tested_input(rows),), 'at once', Counter(), wide))
+        problems += tested_differently(result.output, rows) + [f'{result.status}'] * (result.status != 0)
     for problem in problems:
         print(problem)
-    print(f'{len(cases)} dialogues and {len(TESTED)} lines, {len(problems)} wrong', flush=True)
+    print(f'{len(cases)} dialogues and {len(TESTED) + len(TESTED_PLAIN)} lines, {len(problems)} wrong', flush=True)
     return len(problems), sum((met_in_session(case.data, wanted) for case, wanted in cases), Counter())
 
 
@@ -294,9 +317,14 @@ def is_noticed(chosen, place):
     with driving.broken(fault):
         if any(map(dialogue_problem, dialogues)):
             return 'a dialogue'
-        if any(tested_problem(*row) for row in TESTED):
+        if any_line_wrong():
             return 'a line'
     return noticing_session(chosen, fault)
+
+
+def any_line_wrong():
+    """Whether a worked line is told apart otherwise."""
+    return any(tested_problem(*row, True) for row in TESTED) or any(tested_problem(*row, False) for row in TESTED_PLAIN)
 
 
 def noticing_session(chosen, fault):
@@ -312,7 +340,7 @@ def noticing_session(chosen, fault):
 def compare_broken(chosen, pool):
     """How many faults of the model are not noticed."""
     faults = [fault for fault, _, _ in breakages(chosen)]
-    if any(map(dialogue_problem, DIALOGUES)) or any(tested_problem(*row) for row in TESTED):
+    if any(map(dialogue_problem, DIALOGUES)) or any_line_wrong():
         print('the sound model itself answers a dialogue otherwise: compare/runs/worked.py tells which')
         return len(faults)
     noticed = list(pool.map(is_noticed, [chosen] * len(faults), range(len(faults))))

@@ -329,7 +329,7 @@ def answer_of_example(command):
         return read(f'{TOP}/examples/first.stdout')
     if served := re.search(r'^\./mpdbg serve .* --port (\d+) ', with_files(command)):
         return f'listening {served[1]}\nserved 0\n'
-    if asked := re.fullmatch(r'\./mpdbg run examples/(\w+)\.mpd < examples/\1\.requests', command):
+    if asked := re.fullmatch(r'\./mpdbg run examples/(\w+)\.mpd(?: --wide)? < examples/\1\.requests', command):
         return read(f'{TOP}/examples/{asked[1]}.replies')
     if typed := re.fullmatch(r'\./mpdbg debug examples/(\w+)\.mpd < examples/\1\.console', with_files(command)):
         return read(f'{TOP}/examples/{typed[1]}.console.stdout')
@@ -402,7 +402,7 @@ def main():
     with tempfile.TemporaryDirectory(prefix='shown-') as copy:
         make_copy(copy, os.path.abspath(sys.argv[1]))
         commands = [shown for page in pages for shown in page.commands] + [*help_commands(copy)]
-        commands += [Shown(f'examples/{name}.requests', f'./mpdbg run examples/{name}.mpd < examples/{name}.requests') for name in dialogues()]
+        commands += [Shown(f'examples/{name}.requests', f'./mpdbg run examples/{name}.mpd --wide < examples/{name}.requests') for name in dialogues()]
         skipped = [] if has_parallel() else [shown for shown in commands if shown.wants_parallel]
         commands = [shown for shown in commands if shown not in skipped]
         for shown in commands:

@@ -80,7 +80,7 @@ class Question(NamedTuple):
     def words(self, folder, mode):
         """The words that ask a program, with its file in a folder."""
         options = option_words(self.options._replace(mode=mode))
-        return (self.command, held(folder, 'script.mpd', self.script), *options)
+        return (self.command, held(folder, 'script.mpd', self.script), *options, *('--wide',) * (self.command == 'run'))
 
     def said_by_model(self, mode):
         """What the model answers."""
@@ -88,7 +88,7 @@ class Question(NamedTuple):
             return explorer.answer(self.script, self.options._replace(mode=mode))
         if self.command == 'trace':
             return debugger.answer_file(self.script, self.data, mode)
-        return session.serve(self.script, self.data, mode)
+        return session.serve(self.script, self.data, mode, True)
 
 
 def said(chosen, question, mode):

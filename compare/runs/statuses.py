@@ -244,6 +244,10 @@ def usage_rows(program):
     for told, *options in (*clashes, ('--states wants --outcomes', '--states', '5', '--sample', '3', '--ends')):
         refusal = Result(b'', f'mpdbg: {told}\n'.encode(), 2)
         yield f'all of {options}', no_input(program, 'check', 'no-such-file', *options, '--mode', 'no-mode'), refusal
+    # that traps are asked for without witnesses is told before all of these
+    for options in ((), ('--explain',), ('--piece', '0', '--complete'), ('--outcomes', '--ends'), ('--states', '5'), ('--seed', '3')):
+        refusal = Result(b'', b'mpdbg: --traps wants --witness\n', 2)
+        yield f'traps and {options}', no_input(program, 'check', 'no-such-file', '--traps', *options, '--mode', 'no-mode'), refusal
     full_c = Files(file_of(b''), full()).run(program, 'c', os.path.join(EXAMPLES, 'race.mpd'))
     yield 'a script in C, output full', full_c, device()
     full_help = Files(file_of(b''), full()).run(program, '--help')

@@ -112,7 +112,7 @@ class Speaker:
         if self.random.random() < 0.8 or not line.endswith(b'}'):
             return data
         try:
-            is_free = parse(line).at is None
+            is_free = parse(line, True).at is None
         except Refused:
             return data
         return b'%s,"at":%d}%s' % (line[:-1], self.seen, end) if is_free else data
@@ -135,7 +135,7 @@ def listen_to(tried, crowd):
     random = Random(f'crowds/{tried.seed}/{crowd.name}')
     script = small_script(random, crowd.mode) if crowd.script is None else crowd.script
     row = drawn(random, script, crowd.mode, crowd.habits)
-    with tried.serve(script, CLIENTS, crowd.mode) as server:
+    with tried.serve(script, CLIENTS, crowd.mode, wide=True) as server:
         count = max(1, round(tried.crowd * crowd.share))
         speakers = [Speaker(Random(f'{tried.seed}/{crowd.name}/{number}'), client, pieces_for(random, row, count),
                             crowd.ahead[number % len(crowd.ahead)]) for number, client in enumerate(server.ask_for(CLIENTS))]

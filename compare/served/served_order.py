@@ -46,7 +46,7 @@ class Misfit(Exception):
 def request_of(line):
     """The request of a line, and how the line is refused that is none."""
     try:
-        return parse(line), None
+        return parse(line, True), None
     except Refused as refused:
         return None, reply_bytes(refused.reply())[:-1]
 

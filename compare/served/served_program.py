@@ -153,16 +153,16 @@ class Tried(NamedTuple):
         """When a scenario ends at the latest that begins now."""
         return time.monotonic() + self.seconds
 
-    def words_for(self, path, port, clients, mode=None):
-        return [*self.words, 'serve', path, '--port', str(port), '--clients', str(clients), *(() if mode is None else ('--mode', mode))]
+    def words_for(self, path, port, clients, mode=None, wide=False):
+        return [*self.words, 'serve', path, '--port', str(port), '--clients', str(clients), *(() if mode is None else ('--mode', mode)), *('--wide',) * wide]
 
-    def serve(self, script, clients, mode=None, port=None, **files):
+    def serve(self, script, clients, mode=None, port=None, wide=False, **files):
         """A program that listens: on that port, or on one that is free. The script's file may go once it listens."""
         for _ in range(5):
             with tempfile.TemporaryDirectory(prefix='serving-') as folder:
                 os.chmod(folder, 0o711)
                 found = port or free_port()
-                serving = Serving(self.words_for(held(folder, 'script.mpd', script), found, clients, mode), self.until(), **files)
+                serving = Serving(self.words_for(held(folder, 'script.mpd', script), found, clients, mode, wide), self.until(), **files)
                 try:
                     if serving.listen(found):
                         return serving

@@ -223,9 +223,9 @@ def example_client(tried):
 
 # ---- as `run` does
 
-def is_request(line):
+def is_request(line, wide):
     try:
-        parse(line)
+        parse(line, wide)
     except Refused:
         return False
     return True
@@ -253,8 +253,8 @@ def as_run(tried):
                 words = ('serve', held(folder, 'script.mpd', case.script), '--port', free_port(), '--clients', 1, *mode)
                 must_be(tried.run(*words), wanted, case.name)
             continue
-        with tried.serve(case.script, 1, case.mode) as server:
+        with tried.serve(case.script, 1, case.mode, wide=case.wide) as server:
             must_be(session_said(server.client(), case), wanted.output, f'{case.name} ({case.way})')
-            server.must_end(sum(map(is_request, filter(None, lines_of(case.data)))))
+            server.must_end(sum(is_request(line, case.wide) for line in lines_of(case.data) if line))
         replies += wanted.output.count(b'\n')
     return replies

@@ -40,14 +40,14 @@ class Desk:
     def answer(self, line):
         """The bytes of the reply to a line that isn't empty."""
         try:
-            return reply_bytes(self.ask(parse(line)))
+            return reply_bytes(self.ask(parse(line, self.session.wide)))
         except Refused as refused:
             return reply_bytes(refused.reply())
 
 
-def is_request(line):
+def is_request(line, wide):
     try:
-        return parse(line) is not None
+        return parse(line, wide) is not None
     except Refused:
         return False
 
@@ -105,7 +105,7 @@ class Seat:
         for line in lines:
             if line:
                 reply = self.desk.answer(line)
-                self.taken += is_request(line) and reply != reply_bytes(HISTORY_FULL)
+                self.taken += is_request(line, self.desk.session.wide) and reply != reply_bytes(HISTORY_FULL)
                 self.write(reply)
 
     def write(self, reply):
@@ -166,7 +166,7 @@ def session_of(words):
     if text is None:
         raise Ended(BAD_FILE)
     try:
-        return Session(read_script(text), words.mode)
+        return Session(read_script(text), words.mode, words.wide)
     except Fault as fault:
         raise Ended(refusal(text, fault)) from None
 
@@ -200,6 +200,7 @@ def arguments():
     served.add_argument('--mode', default=RENDEZVOUS, metavar='M')
     served.add_argument('--port', type=number_below(65535), required=True, metavar='P')
     served.add_argument('--clients', type=number_below(16), required=True, metavar='N')
+    served.add_argument('--wide', action='store_true')
     return parser.parse_args()
 
 

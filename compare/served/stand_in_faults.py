@@ -301,7 +301,7 @@ def counting(wanted):
 def counting_all(self, line):
     """What counts lines that are no requests."""
     try:
-        parse(line)
+        parse(line, self.session.wide)
     except Refused:
         self.entries += 1
     return SOUND.desk_answer(self, line)

@@ -14,7 +14,7 @@ from model.debugger import MOST_READS, Result
 from model.session import serve
 from rows import worked_slots, worked_waitany
 from rows.worked_runs import FIRST, HEAD_TO_HEAD
-from rows.worked_sessions import DIALOGUES, RUN, STATE, deep, no, ran, step, tested_differently, tested_input
+from rows.worked_sessions import DIALOGUES, RUN, STATE, TESTED_PLAIN, deep, no, ran, step, tested_differently, tested_input
 from started.devices import SECONDS, Files, at_terminal, broken_off, device, full, refused, soft_limit
 from started.programs import file_of, run_in_packets
 from started.shims import HERE, built
@@ -182,9 +182,11 @@ def dialogue_rows(folder):
     """The worked dialogues, but for those with fewer steps in a trail; compare/runs/checked.py has the checked program answer them."""
     for row in of_what_is_known(DIALOGUES, worked_waitany.DIALOGUES, worked_slots.DIALOGUES):
         if row.limit is None:
-            result = folder.run(folder.file('dialogue', row.script.encode()), '--mode', row.mode, data=row.asked())
+            result = folder.run(folder.file('dialogue', row.script.encode()), '--mode', row.mode, *('--wide',) * row.wide, data=row.asked())
             yield row.what, result, Result(row.wanted(), b'', 0)
-    yield 'lines', tested_differently(folder.run(folder.first, data=tested_input()).output), []
+    yield 'lines', tested_differently(folder.run(folder.first, '--wide', data=tested_input()).output), []
+    plain = folder.run(folder.first, data=tested_input(TESTED_PLAIN)).output
+    yield 'lines without --wide', tested_differently(plain, TESTED_PLAIN), []
 
 
 DIALOGUE_ROWS = folder_of(ASKED_OF, dialogue_rows)

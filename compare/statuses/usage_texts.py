@@ -152,13 +152,16 @@ Arguments:
 Options:
       --ranks <N>  How many ranks run the script, 1 to 16, in place of the number in it
       --mode <M>   How standard sends behave: rendezvous, buffered, or slots:K with K from 0 to 65536 [default: rendezvous]
+      --wide       Answer more requests: run-on, hit, script, where, all, decision, steps, lines and explain, and more kinds and fields of break
   -h, --help       Print help
 
 Requests stand on standard input, a JSON object on each line, and each is answered by one line:
-  step, next, run, run-on            go forward
+  step, next, run                    go forward
   back, redo, goto, run-back         go back, and forward again
   state, enabled, vars, calls, why   look at where it stands
   break, unbreak, breaks, explore    set breakpoints, list the runs from here
+With --wide these are answered, too, and `break` has more kinds and fields:
+  run-on                             go forward, also at a single candidate
   hit                                tell which breakpoint the last step hits
   script, where, all, decision       tell names, lines, and what comes next
   steps, lines, explain              list steps, lines of calls, and why it ended so
@@ -180,6 +183,7 @@ Options:
       --mode <M>     How standard sends behave: rendezvous, buffered, or slots:K with K from 0 to 65536 [default: rendezvous]
       --port <P>     The port that it listens on, 1 to 65535
       --clients <N>  How many clients it answers, 1 to 16
+      --wide         Answer more requests: run-on, hit, script, where, all, decision, steps, lines and explain, and more kinds and fields of break
   -h, --help         Print help
 
 It listens on 127.0.0.1 at port P, prints `listening P`, and answers N clients at once.
@@ -214,7 +218,8 @@ Options:
       --explain      Explain each deadlock and trap, and tell what is left over
       --group        List each different end once, with how many runs come to it
       --until <END>  Stop at the first run that ends in a deadlock or a trap [possible values: deadlock]
-      --witness      Print the trace words of a run that ends in a deadlock or a trap
+      --witness      Print the trace words of a run that ends in a deadlock
+      --traps        With --witness, print those of a run that ends in a trap too, as other ways to report do [see docs/FORMATS.md]
       --complete     End with status 4 where nothing was found and not all was tried, with --modes in each mode; not beside --piece or --pieces
       --piece <N>    Print the part of the report that piece N has, 0 to 1023
       --pieces       Print how many pieces there are, and nothing else
@@ -546,6 +551,7 @@ MISTAKES = (
     unknown('debug|a|--laid_witness|w', '--laid_witness', 'mpdbg debug --witness <WITNESS> <FILE>', "a similar argument exists: '--witness'"),
     unknown('debug|--witness|w|a|--mod|buffered', '--mod', 'mpdbg debug --witness <WITNESS> --mode <M> <FILE>', "a similar argument exists: '--mode'"),
     unknown('check|a|--witnes', '--witnes', 'mpdbg check --witness <FILE>', "a similar argument exists: '--witness'"),
+    unknown('check|a|--trap', '--trap', 'mpdbg check --traps <FILE>', "a similar argument exists: '--traps'"),
     unknown('check|a|--splits|2', '--splits', 'mpdbg check --split <K> <FILE>', "a similar argument exists: '--split'"),
     unknown('check|a|--worker|2', '--worker', 'mpdbg check --workers <N> <FILE>', "a similar argument exists: '--workers'"),
     unknown('check|a|--peice|2', '--peice', 'mpdbg check --piece <N> <FILE>', "a similar argument exists: '--piece'"),
@@ -691,6 +697,8 @@ MISTAKES = (
     Mistake('diagnose|a|--mode', "a value is required for '--mode <M>' but none was supplied"),
     Mistake('diagnose|a|--mode=b|--mode|b', "the argument '--mode <M>' cannot be used multiple times", OF_DIAGNOSE),
     Mistake('check|a|--witness|--witness', "the argument '--witness' cannot be used multiple times", OF_CHECK),
+    Mistake('check|a|--traps|--traps', "the argument '--traps' cannot be used multiple times", OF_CHECK),
+    Mistake('check|a|--traps=true', "unexpected value 'true' for '--traps' found; no more were expected", 'mpdbg check --traps <FILE>'),
     Mistake('check|a|--witness=true', "unexpected value 'true' for '--witness' found; no more were expected", 'mpdbg check --witness <FILE>'),
     # ranks
     missing('c|--ranks|2', ['<FILE>'], 'mpdbg c --ranks <N> <FILE>'),

@@ -10,7 +10,7 @@ use Rattle.mpd_model.specs.steps.Next.{enabled}
 use Rattle.mpd_model.specs.texts.Texts.{step_text}
 use Rattle.mpd_model.specs.runs.Trail.{IsReached, world_of}
 use Rattle.mpd_core.proofs.RangeLemmas.{refused_with}
-use Rattle.mpd_core.specs.DebuggerViews.{DebuggerView, standing_of}
+use Rattle.mpd_trail.specs.DebuggerViews.{DebuggerView, standing_of}
 use Rattle.mpd_session.specs.Held.{Held}
 use Rattle.mpd_session.specs.Respond.{respond, respond_at}
 use Rattle.mpd_session.specs.declared.request.Command.TheVariants as command

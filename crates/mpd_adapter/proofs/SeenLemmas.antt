@@ -4,7 +4,7 @@ use Rattle.serde_json.specs.Data.{Data}
 use Rattle.mpd_model.specs.steps.World.{World}
 use Rattle.mpd_model.specs.runs.Trail.{Trail, IsReached, world_of}
 use Rattle.mpd_model.specs.runs.Decisions.{decision}
-use Rattle.mpd_core.specs.DebuggerViews.{DebuggerView, standing_of}
+use Rattle.mpd_trail.specs.DebuggerViews.{DebuggerView, standing_of}
 use Rattle.mpd_session.specs.Held.{Held}
 use Rattle.mpd_vocabulary.specs.declared.word.Word.{Word}
 use Rattle.mpd_dap.specs.declared.body.Json.{Json}

@@ -8,11 +8,11 @@ ghost use Rattle.mpd_adapter.specs.Halts as spec;
 use crate::moves::After;
 use crate::numbers::thread_of;
 use mpd_console::{finish_rank, rank_of};
-use mpd_core::Debugger;
 use mpd_dap::{Json, Reason, stopped};
 use mpd_model::{Decision, Outcome, Step};
 use mpd_policy::decide;
 use mpd_session::Session;
+use mpd_trail::Debugger;
 use std::alloc::{AllocError, Global};
 
 /// Why a session stands still. Ranks count from 0.

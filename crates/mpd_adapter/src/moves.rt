@@ -6,11 +6,12 @@ ghost use Rattle.mpd_vocabulary.specs.declared.word.Word.TheVariants as word;
 ghost use Rattle.mpd_runs.specs.LastChoice.{last_stop};
 ghost use Rattle.mpd_adapter.specs.Moves as spec;
 
-use mpd_core::{Core, Debugger};
+use mpd_core::Core;
 use mpd_model::{Decision, STEPS_MAX, Step};
 use mpd_policy::decide;
 use mpd_runs::last_stop;
 use mpd_session::Session;
+use mpd_trail::Debugger;
 use mpd_vocabulary::Word;
 use std::alloc::{AllocError, Global};
 

@@ -13,7 +13,7 @@ use Rattle.mpd_model.specs.steps.Next.{next, fold, enabled}
 use Rattle.mpd_model.specs.runs.Decisions.{CanFollow}
 use Rattle.mpd_model.specs.runs.Trail.{Trail, Standing, IsReached, done_steps, world_of, forgotten, gone_back}
 use Rattle.mpd_meaning.specs.StepLaws.{HasCalls, EveryStepThatLeadsOnIsListed}
-use Rattle.mpd_core.proofs.KeptLemmas.{fold_on}
+use Rattle.mpd_trail.proofs.KeptLemmas.{fold_on}
 use Rattle.mpd_policy.specs.Wide.{wide_decision}
 use Rattle.mpd_policy.specs.Walk.{Run, stepped, chosen, run_by, run_from, run_taken, run_followed, steps_by}
 use Rattle.mpd_policy.specs.Walks.{Beyond}

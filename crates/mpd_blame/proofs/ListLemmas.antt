@@ -2,7 +2,7 @@
 use Rattle.std.proofs.Common.{◌≡◌, ℕ, zero, suc, Bool, true, false, cond, ◌&&◌, ◌||◌, not, Option, Some, None, List, [], ◌∷◌, map, take, refl, sym, ap, subst, ◌∙◌}
 use Rattle.std.specs.List.{AllByRecursion, filter, find, list_all, list_any}
 use Rattle.std.proofs.lemmas.Bool.{and_parts}
-use Rattle.mpd_explore.specs.declared.report.Leaf.{Leaf}
+use Rattle.mpd_explore.specs.declared.report.SearchLeaf.{SearchLeaf}
 use Rattle.mpd_outcomes.specs.declared.report.Goal.{Goal}
 use Rattle.mpd_outcomes.specs.Goals.{meets}
 use Rattle.mpd_explore.specs.Ends.{firsts, same_end}
@@ -10,12 +10,12 @@ use Rattle.mpd_outcomes.specs.Front.{put}
 use Rattle.mpd_explore.proofs.FirstLemmas.{ending_same}
 
 -- leaves that end in the same way meet the same goals
-same_goal : (g : Goal) (l m : Leaf) → same_end l m ≡ true → meets g l.ending ≡ meets g m.ending
+same_goal : (g : Goal) (l m : SearchLeaf) → same_end l m ≡ true → meets g l.ending ≡ meets g m.ending
 same_goal g l m e = ap (meets g) (ending_same l.ending m.ending e)
 
 -- ---- all
 
-all_unfiltered : (g : Goal) (l : Leaf) (ms : List Leaf) → meets g l.ending ≡ true → list_all (λ m. meets g m.ending) (filter (λ m. not (same_end l m)) ms) ≡ true → list_all (λ m. meets g m.ending) ms ≡ true
+all_unfiltered : (g : Goal) (l : SearchLeaf) (ms : List SearchLeaf) → meets g l.ending ≡ true → list_all (λ m. meets g m.ending) (filter (λ m. not (same_end l m)) ms) ≡ true → list_all (λ m. meets g m.ending) ms ≡ true
 all_unfiltered g l [] here h = refl
 all_unfiltered g l (m ∷ ms) here h = one (same_end l m) refl (all_unfiltered g l ms here) h
   where
@@ -24,14 +24,14 @@ all_unfiltered g l (m ∷ ms) here h = one (same_end l m) refl (all_unfiltered g
     one true is more rest = λ j. (sym (same_goal g l m is) ∙ here) j && more rest j
     one false is more rest = let parts = and_parts (meets g m.ending) (list_all (λ k. meets g k.ending) (filter (λ k. not (same_end l k)) ms)) rest in λ j. parts.0 j && more parts.1 j
 
-pub all_firsts : (g : Goal) (ls : List Leaf) → list_all (λ m. meets g m.ending) (firsts ls) ≡ true → list_all (λ m. meets g m.ending) ls ≡ true
+pub all_firsts : (g : Goal) (ls : List SearchLeaf) → list_all (λ m. meets g m.ending) (firsts ls) ≡ true → list_all (λ m. meets g m.ending) ls ≡ true
 all_firsts g [] h = refl
 all_firsts g (l ∷ ls) h =
     let parts = and_parts (meets g l.ending) (list_all (λ m. meets g m.ending) (filter (λ m. not (same_end l m)) (firsts ls))) h in
     λ j. parts.0 j && all_firsts g ls (all_unfiltered g l (firsts ls) parts.0 parts.1) j
 
 -- and the other way round
-all_filtered : (g : Goal) (q : Leaf → Bool) (ms : List Leaf) → list_all (λ m. meets g m.ending) ms ≡ true → list_all (λ m. meets g m.ending) (filter q ms) ≡ true
+all_filtered : (g : Goal) (q : SearchLeaf → Bool) (ms : List SearchLeaf) → list_all (λ m. meets g m.ending) ms ≡ true → list_all (λ m. meets g m.ending) (filter q ms) ≡ true
 all_filtered g q [] h = refl
 all_filtered g q (m ∷ ms) h = let parts = and_parts (meets g m.ending) (list_all (λ k. meets g k.ending) ms) h in one (q m) parts.0 (all_filtered g q ms parts.1)
   where
@@ -39,12 +39,12 @@ all_filtered g q (m ∷ ms) h = let parts = and_parts (meets g m.ending) (list_a
     one true here more = λ j. here j && more j
     one false here more = more
 
-pub all_within : (g : Goal) (ls : List Leaf) → list_all (λ m. meets g m.ending) ls ≡ true → list_all (λ m. meets g m.ending) (firsts ls) ≡ true
+pub all_within : (g : Goal) (ls : List SearchLeaf) → list_all (λ m. meets g m.ending) ls ≡ true → list_all (λ m. meets g m.ending) (firsts ls) ≡ true
 all_within g [] h = refl
 all_within g (l ∷ ls) h = let parts = and_parts (meets g l.ending) (list_all (λ m. meets g m.ending) ls) h in λ j. parts.0 j && all_filtered g (λ m. not (same_end l m)) (firsts ls) (all_within g ls parts.1) j
 
 -- where not all firsts meet a goal, not all leaves do
-pub not_all_firsts : (g : Goal) (ls : List Leaf) → list_all (λ m. meets g m.ending) (firsts ls) ≡ false → list_all (λ m. meets g m.ending) ls ≡ false
+pub not_all_firsts : (g : Goal) (ls : List SearchLeaf) → list_all (λ m. meets g m.ending) (firsts ls) ≡ false → list_all (λ m. meets g m.ending) ls ≡ false
 not_all_firsts g ls h = one (list_all (λ m. meets g m.ending) ls) refl
   where
     one : (b : Bool) → list_all (λ m. meets g m.ending) ls ≡ b → b ≡ false
@@ -53,16 +53,16 @@ not_all_firsts g ls h = one (list_all (λ m. meets g m.ending) ls) refl
 
 -- ---- the first
 
-find_unfiltered : (g : Goal) (l : Leaf) (ms : List Leaf) → meets g l.ending ≡ false → find (λ m. meets g m.ending) (filter (λ m. not (same_end l m)) ms) ≡ find (λ m. meets g m.ending) ms
+find_unfiltered : (g : Goal) (l : SearchLeaf) (ms : List SearchLeaf) → meets g l.ending ≡ false → find (λ m. meets g m.ending) (filter (λ m. not (same_end l m)) ms) ≡ find (λ m. meets g m.ending) ms
 find_unfiltered g l [] here = refl
 find_unfiltered g l (m ∷ ms) here = one (same_end l m) refl (find_unfiltered g l ms here)
   where
     one : (b : Bool) → same_end l m ≡ b → find (λ k. meets g k.ending) (filter (λ k. not (same_end l k)) ms) ≡ find (λ k. meets g k.ending) ms
         → find (λ k. meets g k.ending) (cond (not b) (m ∷ filter (λ k. not (same_end l k)) ms) (filter (λ k. not (same_end l k)) ms)) ≡ cond (meets g m.ending) (Some m) (find (λ k. meets g k.ending) ms)
     one true is more = more ∙ (λ j. cond (sym (sym (same_goal g l m is) ∙ here) j) (Some m) (find (λ k. meets g k.ending) ms))
-    one false is more = ap (λ (o : Option Leaf). cond (meets g m.ending) (Some m) o) more
+    one false is more = ap (λ (o : Option SearchLeaf). cond (meets g m.ending) (Some m) o) more
 
-pub find_firsts : (g : Goal) (ls : List Leaf) → find (λ m. meets g m.ending) (firsts ls) ≡ find (λ m. meets g m.ending) ls
+pub find_firsts : (g : Goal) (ls : List SearchLeaf) → find (λ m. meets g m.ending) (firsts ls) ≡ find (λ m. meets g m.ending) ls
 find_firsts g [] = refl
 find_firsts g (l ∷ ls) = one (meets g l.ending) refl (find_firsts g ls)
   where
@@ -71,7 +71,7 @@ find_firsts g (l ∷ ls) = one (meets g l.ending) refl (find_firsts g ls)
     one false is more = find_unfiltered g l (firsts ls) is ∙ more
 
 -- the first of some that come first is the first of all
-pub find_taken : (p : Leaf → Bool) (n : ℕ) (ls : List Leaf) (l : Leaf) → find p (take n ls) ≡ Some l → find p ls ≡ Some l
+pub find_taken : (p : SearchLeaf → Bool) (n : ℕ) (ls : List SearchLeaf) (l : SearchLeaf) → find p (take n ls) ≡ Some l → find p ls ≡ Some l
 find_taken p zero ls l h = absurd (cc)
 find_taken p (suc n) [] l h = absurd (cc)
 find_taken p (suc n) (m ∷ ms) l h = one (p m) (find_taken p n ms l) h
@@ -80,7 +80,7 @@ find_taken p (suc n) (m ∷ ms) l h = one (p m) (find_taken p n ms l) h
     one true more e = e
     one false more e = more e
 
-pub none_found : (p : Leaf → Bool) (ls : List Leaf) → find p ls ≡ None → list_any p ls ≡ false
+pub none_found : (p : SearchLeaf → Bool) (ls : List SearchLeaf) → find p ls ≡ None → list_any p ls ≡ false
 none_found p [] h = refl
 none_found p (m ∷ ms) h = one (p m) (none_found p ms) h
   where
@@ -89,7 +89,7 @@ none_found p (m ∷ ms) h = one (p m) (none_found p ms) h
     one false more e = more e
 
 -- what holds of all holds of what is found
-pub found_has : (p : Leaf → Bool) (P : Leaf → Type 0) (ls : List Leaf) (l : Leaf) → find p ls ≡ Some l → AllByRecursion P ls → P l
+pub found_has : (p : SearchLeaf → Bool) (P : SearchLeaf → Type 0) (ls : List SearchLeaf) (l : SearchLeaf) → find p ls ≡ Some l → AllByRecursion P ls → P l
 found_has p P [] l h all = absurd (cc)
 found_has p P (m ∷ ms) l h all = one (p m) (λ e. found_has p P ms l e all.1) h
   where
@@ -99,6 +99,6 @@ found_has p P (m ∷ ms) l h all = one (p m) (λ e. found_has p P ms l e all.1) 
 
 -- ---- leaves with choices before them
 
-pub all_put : (g : Goal) (cs : List ℕ) (ls : List Leaf) → list_all (λ m. meets g m.ending) (map (put cs) ls) ≡ list_all (λ m. meets g m.ending) ls
+pub all_put : (g : Goal) (cs : List ℕ) (ls : List SearchLeaf) → list_all (λ m. meets g m.ending) (map (put cs) ls) ≡ list_all (λ m. meets g m.ending) ls
 all_put g cs [] = refl
 all_put g cs (l ∷ ls) = ap (λ (b : Bool). meets g l.ending && b) (all_put g cs ls)

@@ -9,7 +9,7 @@ use Rattle.mpd_model.specs.declared.step.Step.{Step}
 use Rattle.mpd_model.specs.steps.World.{World}
 use Rattle.mpd_policy.specs.Wide.{wide_decision}
 use Rattle.mpd_policy.specs.Walk.{Run, run_by, steps_by, wide_walk}
-use Rattle.mpd_explore.specs.declared.report.Leaf.{Leaf}
+use Rattle.mpd_explore.specs.declared.report.SearchLeaf.{SearchLeaf}
 use Rattle.mpd_explore.specs.Report.{shown}
 use Rattle.mpd_outcomes.specs.declared.report.Outcomes.{Outcomes}
 use Rattle.mpd_outcomes.specs.declared.report.Goal.TheVariants as goal_is
@@ -21,7 +21,7 @@ use Rattle.mpd_blame.specs.Blame.{ends_well, ends_badly, is_doomed, FirstWell, N
 use Rattle.mpd_blame.proofs.ListLemmas.{all_firsts, not_all_firsts, find_firsts, find_taken, none_found}
 
 -- the first that ends well is listed
-pub sees_well : (fuel : ℕ) (w : World) (o : Outcomes) (l : Leaf) (step : Option Step) → TellsRuns fuel w o → find ends_well o.firsts.leaves.items ≡ Some l → IsSome (run_by wide_decision fuel l.choices w)
+pub sees_well : (fuel : ℕ) (w : World) (o : Outcomes) (l : SearchLeaf) (step : Option Step) → TellsRuns fuel w o → find ends_well o.firsts.leaves.items ≡ Some l → IsSome (run_by wide_decision fuel l.choices w)
     → slice_get (steps_by (run_by wide_decision fuel l.choices w)) 0 ≡ step → FirstWell fuel w step
 sees_well fuel w o l step h found some begins = one (run_by wide_decision fuel l.choices w) refl some
   where
@@ -37,7 +37,7 @@ none_well fuel w o h none =
     none_found ends_well (take h.runs (leaves_from fuel w)) (sym (find_firsts goal_is.Well (take h.runs (leaves_from fuel w))) ∙ ap (find ends_well) (sym h.firsts_are) ∙ none)
 
 -- the last of some leaves is none that ends well where none of them is
-none_last : (ls : List Leaf) → find ends_well ls ≡ None → ends_at (Some goal_is.Well) ls ≡ true → ⊥
+none_last : (ls : List SearchLeaf) → find ends_well ls ≡ None → ends_at (Some goal_is.Well) ls ≡ true → ⊥
 none_last ls none last =
     let n : ℕ = length ls - 1 in
     let parts = ap (list_any ends_well) (sym (take-append-drop n ls)) ∙ list_any-append ends_well (take n ls) (drop n ls) in
@@ -89,7 +89,7 @@ sees_cut most fuel w o h none more all =
 pub few_of_all : (until : Option Goal) (fuel : ℕ) (w : World) (o : Outcomes) → StopsRuns until fuel w o → o.visited ≤ states_along (leaves_from fuel w)
 few_of_all until fuel w o h = let few = h.few in let least = along_least (suc h.told.runs) (leaves_from fuel w) in omega (arith, few, least)
   where
-    along_least : (n : ℕ) (ls : List Leaf) → states_along (take n ls) ≤ states_along ls
+    along_least : (n : ℕ) (ls : List SearchLeaf) → states_along (take n ls) ≤ states_along ls
     along_least zero ls = omega arith
     along_least (suc n) [] = omega arith
     along_least (suc n) (l ∷ ls) = let more = along_least n ls in omega (arith, more)

@@ -2,7 +2,7 @@
 use Rattle.std.proofs.Common.{◌≡◌, ℕ, zero, suc, ◌+◌, ◌<◌, List, [], ◌∷◌, ◌++◌, length, take, get_or, refl, subst, arith}
 use Rattle.std.specs.List.{AllZip}
 use Rattle.std.proofs.Common.{Global, String, map, string_bytes, ap, ◌∙◌}
-use Rattle.mpd_core.specs.DebuggerViews.{DebuggerView, standing_of}
+use Rattle.mpd_trail.specs.DebuggerViews.{DebuggerView, standing_of}
 
 -- the next of each list
 zipped_next : {A B : Type 0} (R : A → B → Type 0) (xs : List A) (ys : List B) (i : ℕ) (x : A) (y : B) → i < length xs → x ≡ get_or xs i x → R x y → AllZip R (take i xs) ys → AllZip R (take (suc i) xs) (ys ++ y ∷ [])

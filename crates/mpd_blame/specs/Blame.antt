@@ -10,7 +10,7 @@ use Rattle.mpd_model.specs.steps.Next.{fold}
 use Rattle.mpd_model.specs.runs.Trail.{Standing, IsReached, forgotten, gone_back}
 use Rattle.mpd_policy.specs.Wide.{wide_decision}
 use Rattle.mpd_policy.specs.Walk.{Run, run_by}
-use Rattle.mpd_explore.specs.declared.report.Leaf.{Leaf}
+use Rattle.mpd_explore.specs.declared.report.SearchLeaf.{SearchLeaf}
 use Rattle.mpd_outcomes.specs.declared.report.Goal.TheVariants as goal_is
 use Rattle.mpd_outcomes.specs.Goals.{meets, states_along}
 use Rattle.mpd_outcomes.specs.Outcomes.{leaves_from}
@@ -23,11 +23,11 @@ use Rattle.mpd_blame.specs.declared.back.Decided.{Decided}
 -- ---- from one state
 
 -- done, also where messages are left over
-abbrev pub ends_well : Leaf → Bool
+abbrev pub ends_well : SearchLeaf → Bool
 ends_well l = meets goal_is.Well l.ending
 
 -- in a deadlock or with a trap
-abbrev pub ends_badly : Leaf → Bool
+abbrev pub ends_badly : SearchLeaf → Bool
 ends_badly l = meets goal_is.Bad l.ending
 
 -- with so much fuel every run from this state ends badly
@@ -36,7 +36,7 @@ is_doomed fuel w = list_all ends_badly (leaves_from fuel w)
 
 -- Some run from this state ends well, and this is the first step of the first of these; none where that has none.
 pub record FirstWell (fuel : ℕ) (w : World) (step : Option Step) : Type 0 where
-  pub leaf : Leaf
+  pub leaf : SearchLeaf
   pub first : find ends_well (leaves_from fuel w) ≡ Some leaf
   pub run : Run
   pub by : run_by wide_decision fuel leaf.choices w ≡ Some run

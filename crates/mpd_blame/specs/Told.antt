@@ -9,7 +9,7 @@ use Rattle.mpd_model.specs.runs.Trail.{Standing}
 use Rattle.mpd_model.specs.texts.Texts.{line}
 use Rattle.mpd_policy.specs.Wide.{wide_decision}
 use Rattle.mpd_policy.specs.Walk.{run_by, steps_by}
-use Rattle.mpd_explore.specs.declared.report.Leaf.{Leaf}
+use Rattle.mpd_explore.specs.declared.report.SearchLeaf.{SearchLeaf}
 use Rattle.mpd_blame.specs.declared.back.Blame.{Blame}
 use Rattle.mpd_blame.specs.Blame.{ends_badly, IsBlame, IsThere}
 use Rattle.mpd_blame.specs.Words.{blame_words}
@@ -27,13 +27,13 @@ pub record IsBlamed (most limit : ℕ) (s : Program) (mode : Mode) (steps : List
   pub text_is : text ≡ blame_line s world blame
 
 -- that of a leaf from where a debugger stands, which is the start: none where it doesn't end badly
-abbrev pub LineIf : ℕ → ℕ → Standing → Leaf → Bool → List ℕ → Type 0
+abbrev pub LineIf : ℕ → ℕ → Standing → SearchLeaf → Bool → List ℕ → Type 0
 LineIf most limit d l false text = text ≡ []
 LineIf most limit d l true text = IsBlamed most limit d.trail.program d.trail.mode (steps_by (run_by wide_decision limit l.choices d.world)) text
 
-abbrev pub IsLine : ℕ → ℕ → Standing → Leaf → List ℕ → Type 0
+abbrev pub IsLine : ℕ → ℕ → Standing → SearchLeaf → List ℕ → Type 0
 IsLine most limit d l text = LineIf most limit d l (ends_badly l) text
 
 -- those of some leaves, in their order
-abbrev pub AreBlamed : ℕ → ℕ → Standing → List Leaf → List (List ℕ) → Type 0
+abbrev pub AreBlamed : ℕ → ℕ → Standing → List SearchLeaf → List (List ℕ) → Type 0
 AreBlamed most limit d leaves texts = AllZip (IsLine most limit d) leaves texts

@@ -4,7 +4,7 @@ ghost use Rattle.std.specs.Prelude.{◌≡◌, ◌+◌, ◌-◌, ◌<◌, ◌≤
 ghost use Rattle.mpd_model.specs.steps.World.{start};
 ghost use Rattle.mpd_model.specs.steps.Next.{next};
 ghost use Rattle.mpd_model.specs.runs.Trail.{forgotten, gone_back, step_eq, IsReached};
-ghost use Rattle.mpd_core.specs.DebuggerViews.{standing_of};
+ghost use Rattle.mpd_trail.specs.DebuggerViews.{standing_of};
 ghost use Rattle.mpd_policy.specs.Wide.{wide_decision};
 ghost use Rattle.mpd_outcomes.specs.Goals.{states_along};
 ghost use Rattle.mpd_outcomes.specs.Outcomes.{leaves_from};
@@ -12,11 +12,11 @@ ghost use Rattle.mpd_blame.specs.declared.sight.Sight.TheVariants as sight_is;
 ghost use Rattle.mpd_blame.specs.Blame.{is_doomed, tells, IsBack, IsBlame, IsOnly, IsThere, Turned};
 
 use crate::sight::{Looked, Sight, look};
-use mpd_core::Debugger;
 use mpd_meaning::steps::{every_step_that_leads_on_is_listed, reached_worlds_have_calls};
 use mpd_model::{Decision, STEPS_MAX, Step};
 use mpd_outcomes::StateLimits;
 use mpd_policy::{put_back, wide_decide, wide_decisions_can_be_followed};
+use mpd_trail::Debugger;
 use std::alloc::{AllocError, Global};
 
 /// The step that decided how a run ends.

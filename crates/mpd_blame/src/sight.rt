@@ -4,7 +4,7 @@ ghost use Rattle.std.specs.Prelude.{◌≡◌, ◌-◌, ◌+◌, ◌≤◌, ◌<
 ghost use Rattle.std.specs.List.{AllByRecursion, find, list_all};
 ghost use Rattle.std.specs.Option.{option_map};
 ghost use Rattle.mpd_model.specs.runs.Trail.{done_steps};
-ghost use Rattle.mpd_core.specs.DebuggerViews.{AsFound, standing_of};
+ghost use Rattle.mpd_trail.specs.DebuggerViews.{AsFound, standing_of};
 ghost use Rattle.mpd_policy.specs.Wide.{wide_decision};
 ghost use Rattle.mpd_policy.specs.Walk.{run_by, steps_by};
 ghost use Rattle.mpd_policy.specs.Walks.{Beyond};
@@ -15,11 +15,11 @@ ghost use Rattle.mpd_outcomes.specs.Goals.{states_along, StopsFor, StopsRuns};
 ghost use Rattle.mpd_blame.specs.declared.sight.Sight.TheVariants as sight_is;
 ghost use Rattle.mpd_blame.specs.Blame.{ends_well, ends_badly, Sees};
 
-use mpd_core::Debugger;
-use mpd_explore::Leaf;
+use mpd_explore::{SearchLeaf, Witnesses};
 use mpd_model::{STEPS_MAX, Step};
 use mpd_outcomes::{Goal, Outcomes, StateLimits, explore_outcomes};
 use mpd_policy::{Wide, follow, put_back};
+use mpd_trail::Debugger;
 use std::alloc::{AllocError, Global};
 
 /// What is known of the runs from a state.
@@ -42,7 +42,7 @@ pub(crate) struct Looked {
 }
 
 /// The first leaf that ends well.
-fn first_well(leaves: &[Leaf]) -> Option<&Leaf>
+fn first_well(leaves: &[SearchLeaf]) -> Option<&SearchLeaf>
     ensures { option_map (λ l. l.now) result ≡ find ends_well leaves.now }
 {
     for leaf in leaves {
@@ -54,7 +54,7 @@ fn first_well(leaves: &[Leaf]) -> Option<&Leaf>
 }
 
 /// Whether all leaves are deadlocks and traps.
-fn all_badly(leaves: &[Leaf]) -> bool
+fn all_badly(leaves: &[SearchLeaf]) -> bool
     ensures { result ≡ list_all ends_badly leaves.now }
 {
     for leaf in leaves {
@@ -71,7 +71,7 @@ fn first_step_there(
     alloc: Global,
     debugger: &mut Debugger<'_>,
     fuel: usize,
-    leaf: &Leaf,
+    leaf: &SearchLeaf,
 ) -> Result<Option<Step>, AllocError>
     requires fits { debugger.old.trail.depth + fuel ≤ STEPS_MAX }
     requires some { IsSome (run_by wide_decision fuel leaf.now.choices debugger.old.world) }
@@ -91,7 +91,7 @@ fn first_step(
     alloc: Global,
     debugger: &mut Debugger<'_>,
     fuel: usize,
-    leaf: &Leaf,
+    leaf: &SearchLeaf,
 ) -> Result<Option<Step>, AllocError>
     requires clean { length debugger.old.trail.steps ≡ debugger.old.trail.depth }
     requires fits { debugger.old.trail.depth + fuel ≤ STEPS_MAX }
@@ -147,7 +147,7 @@ fn limits_at(limits: StateLimits, depth: usize) -> StateLimits
         fuel: limits.fuel - depth,
         kept: limits.kept,
         visited: limits.visited,
-        witnesses: false,
+        witnesses: Witnesses::OfNone,
         until: Some(Goal::Well),
     }
 }

@@ -3,7 +3,7 @@
 ghost use Rattle.std.specs.Prelude.{◌≡◌, ◌≤◌, ◌<◌, ◌++◌, true, IfOk, OnErr, IsSome, length, map, string_bytes};
 ghost use Rattle.std.specs.List.{AllByRecursion};
 ghost use Rattle.mpd_model.specs.runs.Trail.{done_steps};
-ghost use Rattle.mpd_core.specs.DebuggerViews.{AsFound, standing_of};
+ghost use Rattle.mpd_trail.specs.DebuggerViews.{AsFound, standing_of};
 ghost use Rattle.mpd_policy.specs.Wide.{wide_decision};
 ghost use Rattle.mpd_policy.specs.Walk.{run_by, steps_by};
 ghost use Rattle.mpd_policy.specs.Walks.{Beyond};
@@ -13,11 +13,12 @@ ghost use Rattle.mpd_blame.specs.Blame.{ends_badly, IsBack};
 
 use crate::back::{Blame, blame_run};
 use crate::words::push_blame;
-use mpd_core::{Core, Debugger};
-use mpd_explore::Leaf;
+use mpd_core::Core;
+use mpd_explore::SearchLeaf;
 use mpd_model::STEPS_MAX;
 use mpd_outcomes::{Goal, StateLimits};
 use mpd_policy::{Wide, follow, put_back};
+use mpd_trail::Debugger;
 use std::alloc::{AllocError, Global};
 
 /// Where it was decided how a run ends, as a line that begins with two spaces. The core is in the state before the step that decided it.
@@ -74,7 +75,7 @@ pub fn line_of_leaf(
     alloc: Global,
     debugger: &mut Debugger<'_>,
     limits: StateLimits,
-    leaf: &Leaf,
+    leaf: &SearchLeaf,
 ) -> Result<String, AllocError>
     requires clean { length debugger.old.trail.steps ≡ debugger.old.trail.depth }
     requires at_start { debugger.old.trail.depth ≡ 0 }
@@ -101,7 +102,7 @@ pub fn blame_lines(
     alloc: Global,
     debugger: &mut Debugger<'_>,
     limits: StateLimits,
-    leaves: &[Leaf],
+    leaves: &[SearchLeaf],
 ) -> Result<Vec<String>, AllocError>
     requires clean { length debugger.old.trail.steps ≡ debugger.old.trail.depth }
     requires at_start { debugger.old.trail.depth ≡ 0 }

@@ -1,7 +1,7 @@
 -- What is written of a script in C.
 use Rattle.std.specs.Prelude.{◌≡◌, ◌+◌, Result, Ok, Err}
 use Rattle.std.specs.Io.KnownBytes.{Appends}
-use Rattle.mpd_lines.specs.Seen.{SinkSeen}
+use Rattle.mpd_model.specs.devices.Seen.{SinkSeen}
 use Rattle.mpd_lines.specs.declared.engine.EngineFault.{EngineFault}
 use Rattle.mpd_lines.specs.declared.engine.EngineFault.TheVariants.{ReadFailed, WriteFailed, TooManyTurns, Memory}
 use Rattle.mpd_lines.specs.Telling.{AppendsPart}

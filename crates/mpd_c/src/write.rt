@@ -3,8 +3,8 @@
 ghost use Rattle.mpd_c.specs.Written.{WroteC};
 
 use crate::script::print_c;
-use mpd_lines::{EngineFault, Sink, write_all};
-use mpd_model::Script;
+use mpd_lines::{EngineFault, write_all};
+use mpd_model::{Script, Sink};
 use std::alloc::Global;
 
 /// Writes a script as a C program with MPI calls (docs/FORMATS.md, "A script in C"). `WriteFailed`

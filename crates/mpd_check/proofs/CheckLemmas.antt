@@ -7,7 +7,7 @@ use Rattle.mpd_model.specs.declared.call.Mode.{Mode}
 use Rattle.mpd_model.specs.script.Program.{Program}
 use Rattle.mpd_model.specs.steps.World.{start}
 use Rattle.mpd_model.specs.runs.Trail.{Standing, first_standing}
-use Rattle.mpd_lines.specs.Seen.{SinkSeen}
+use Rattle.mpd_model.specs.devices.Seen.{SinkSeen}
 use Rattle.mpd_lines.specs.declared.engine.EngineFault.TheVariants.{ReadFailed, WriteFailed, TooManyTurns, Memory}
 use Rattle.mpd_explore.specs.Sleeping.{decides_by}
 use Rattle.mpd_explore.specs.declared.splitter.TheConstants.{PIECES_MAX}
@@ -18,9 +18,9 @@ use Rattle.mpd_explore.specs.Pieces.{numbered, Reaches}
 use Rattle.mpd_explore.specs.Along.{choices_of}
 use Rattle.mpd_explore.proofs.PieceLemmas.{numbered_choices}
 use Rattle.mpd_explore.proofs.SplitLemmas.{reached_at, level_reached}
-use Rattle.mpd_check.specs.declared.pool.CheckPlan.{CheckPlan}
-use Rattle.mpd_check.specs.declared.pool.PoolFault.{PoolFault}
-use Rattle.mpd_check.specs.declared.pool.PoolFault.TheVariants as pool
+use Rattle.mpd_pool.specs.declared.pool.SearchPlan.{SearchPlan}
+use Rattle.mpd_pool.specs.declared.pool.PoolFault.{PoolFault}
+use Rattle.mpd_pool.specs.declared.pool.PoolFault.TheVariants as pool
 use Rattle.mpd_check.specs.declared.Told.{Told}
 use Rattle.mpd_check.specs.declared.fault.CheckFault.{CheckFault}
 use Rattle.mpd_check.specs.declared.fault.CheckFault.TheVariants.{BadWorkers, TooManyPieces, NoSuchPiece, Engine}
@@ -33,7 +33,7 @@ use Rattle.mpd_check.specs.Checked.{pieces_of, leaves_of, more_of, leaves_at, mo
 
 -- ---- a report of all pieces
 
-pub put_answered : (want : List ℕ) (s : Program) (mode : Mode) (plan : CheckPlan) (workers : ℕ) (old new : SinkSeen) (text : List ℕ) (told : Tally) (r : Result Tally CheckFault) → text ≡ want
+pub put_answered : (want : List ℕ) (s : Program) (mode : Mode) (plan : SearchPlan) (workers : ℕ) (old new : SinkSeen) (text : List ℕ) (told : Tally) (r : Result Tally CheckFault) → text ≡ want
     → told ≡ tally_of (leaves_of s mode plan) (more_of s mode plan) → IsCrew workers → AreFew s mode plan → Put text told old new r → AnsweredBy want s mode plan workers old new r
 put_answered want s mode plan workers old new text told (Ok t) is tells crew few h = (rw is at h.0, h.1 ∙ tells, crew, few)
 put_answered want s mode plan workers old new text told (Err (Engine WriteFailed)) is tells crew few h = (rw is at h, crew, few)
@@ -44,7 +44,7 @@ put_answered want s mode plan workers old new text told (Err BadWorkers) is tell
 put_answered want s mode plan workers old new text told (Err TooManyPieces) is tells crew few h = absurd h
 put_answered want s mode plan workers old new text told (Err (NoSuchPiece n m)) is tells crew few h = h
 
-pub refused_answered : (want : List ℕ) (s : Program) (mode : Mode) (plan : CheckPlan) (workers : ℕ) (old new : SinkSeen) (f : PoolFault) → new ≡ old → IsCrew workers → (f ≡ pool.BadWorkers → ⊥)
+pub refused_answered : (want : List ℕ) (s : Program) (mode : Mode) (plan : SearchPlan) (workers : ℕ) (old new : SinkSeen) (f : PoolFault) → new ≡ old → IsCrew workers → (f ≡ pool.BadWorkers → ⊥)
     → (f ≡ pool.TooManyPieces → PIECES_MAX < length (pieces_of s mode plan)) → AnsweredBy want s mode plan workers old new (Err (refused_by f))
 refused_answered want s mode plan workers old new pool.BadWorkers same crew some many = absurd (some refl)
 refused_answered want s mode plan workers old new pool.TooManyPieces same crew some many = (same, crew, many refl)
@@ -52,7 +52,7 @@ refused_answered want s mode plan workers old new pool.Memory same crew some man
 
 -- ---- one piece
 
-pub put_part : (text : List ℕ → List ℕ) (s : Program) (mode : Mode) (plan : CheckPlan) (number : ℕ) (old new : SinkSeen) (told : Told) (r : Result Tally CheckFault) → PartTold text s mode plan number (Ok told) → Put told.text.items told.tally old new r → PartAnswered text s mode plan number old new r
+pub put_part : (text : List ℕ → List ℕ) (s : Program) (mode : Mode) (plan : SearchPlan) (number : ℕ) (old new : SinkSeen) (told : Told) (r : Result Tally CheckFault) → PartTold text s mode plan number (Ok told) → Put told.text.items told.tally old new r → PartAnswered text s mode plan number old new r
 put_part text s mode plan number old new told (Ok t) p h = (p.0, p.1, p.2, rw p.3 at h.0, h.1 ∙ p.4)
 put_part text s mode plan number old new told (Err (Engine WriteFailed)) p h = (p.0, p.1, p.2, rw p.3 at h)
 put_part text s mode plan number old new told (Err (Engine ReadFailed)) p h = h
@@ -62,7 +62,7 @@ put_part text s mode plan number old new told (Err BadWorkers) p h = h
 put_part text s mode plan number old new told (Err TooManyPieces) p h = absurd h
 put_part text s mode plan number old new told (Err (NoSuchPiece n m)) p h = absurd h
 
-pub refused_part : (text : List ℕ → List ℕ) (s : Program) (mode : Mode) (plan : CheckPlan) (number : ℕ) (old new : SinkSeen) (f : CheckFault) → new ≡ old → PartTold text s mode plan number (Err f) → PartAnswered text s mode plan number old new (Err f)
+pub refused_part : (text : List ℕ → List ℕ) (s : Program) (mode : Mode) (plan : SearchPlan) (number : ℕ) (old new : SinkSeen) (f : CheckFault) → new ≡ old → PartTold text s mode plan number (Err f) → PartAnswered text s mode plan number old new (Err f)
 refused_part text s mode plan number old new (Engine WriteFailed) same p = absurd p
 refused_part text s mode plan number old new (Engine ReadFailed) same p = p
 refused_part text s mode plan number old new (Engine TooManyTurns) same p = p
@@ -79,23 +79,23 @@ piece_at : (xs : List (List ℕ)) (ps : List Piece) (i : ℕ) (p : Piece) → ps
 piece_at xs ps i p is within read =
     ap (λ (ys : List (List ℕ)). slice_get ys i) (sym (ap choices_of is ∙ numbered_choices 0 xs)) ∙ slice_get-map (λ (q : Piece). q.choices) ps i ∙ ap (option_map (λ (q : Piece). q.choices)) (slice_get_read ps (length ps) i p refl within read)
 
-pub piece_told : (text : List ℕ → List ℕ) (s : Program) (mode : Mode) (plan : CheckPlan) (ps : List Piece) (number : ℕ) (p : Piece) (told : Told) → ps ≡ numbered 0 (pieces_of s mode plan) → number < length ps → p ≡ get_or ps number p → AreFew s mode plan
+pub piece_told : (text : List ℕ → List ℕ) (s : Program) (mode : Mode) (plan : SearchPlan) (ps : List Piece) (number : ℕ) (p : Piece) (told : Told) → ps ≡ numbered 0 (pieces_of s mode plan) → number < length ps → p ≡ get_or ps number p → AreFew s mode plan
     → told.text.items ≡ text p.choices → told.tally ≡ tally_of (leaves_at s mode plan p.choices) (more_at s mode plan p.choices) → PartTold text s mode plan number (Ok told)
 piece_told text s mode plan ps number p told is within read few told_so tally = (p.choices, piece_at (pieces_of s mode plan) ps number p is within read, few, told_so, tally)
 
-pub none_told : (text : List ℕ → List ℕ) (s : Program) (mode : Mode) (plan : CheckPlan) (ps : List Piece) (number : ℕ) → ps ≡ numbered 0 (pieces_of s mode plan) → length ps ≤ number → AreFew s mode plan → PartTold text s mode plan number (Err (NoSuchPiece number (length ps)))
+pub none_told : (text : List ℕ → List ℕ) (s : Program) (mode : Mode) (plan : SearchPlan) (ps : List Piece) (number : ℕ) → ps ≡ numbered 0 (pieces_of s mode plan) → length ps ≤ number → AreFew s mode plan → PartTold text s mode plan number (Err (NoSuchPiece number (length ps)))
 none_told text s mode plan ps number is past few = (refl, count_is (pieces_of s mode plan) ps is, past, few)
 
-pub reached_number : (s : Program) (mode : Mode) (plan : CheckPlan) (ps : List Piece) (number : ℕ) (p : Piece) (d : Standing) → d ≡ first_standing s mode → ps ≡ numbered 0 (pieces_of s mode plan) → number < length ps → p ≡ get_or ps number p → Reaches (decides_by plan.limits.ends) plan.limits.fuel p.choices d.world
+pub reached_number : (s : Program) (mode : Mode) (plan : SearchPlan) (ps : List Piece) (number : ℕ) (p : Piece) (d : Standing) → d ≡ first_standing s mode → ps ≡ numbered 0 (pieces_of s mode plan) → number < length ps → p ≡ get_or ps number p → Reaches (decides_by plan.limits.ends) plan.limits.fuel p.choices d.world
 reached_number s mode plan ps number p d is pieces within read =
     reached_at (decides_by plan.limits.ends) plan.limits.fuel (start s mode) d.world ps number p p.choices within read refl (ap (λ (x : Standing). x.world) is) (level_reached (decides_by plan.limits.ends) plan.limits.fuel plan.split (start s mode) ps pieces)
 
-pub same_start : (t : Telling) (s : Program) (mode : Mode) (plan : CheckPlan) (number : ℕ) (d : Standing) (r : Result Told CheckFault) → d ≡ first_standing s mode → PartTold (part_text t d.trail.program d.trail.mode plan) d.trail.program d.trail.mode plan number r → PartTold (part_text t s mode plan) s mode plan number r
+pub same_start : (t : Telling) (s : Program) (mode : Mode) (plan : SearchPlan) (number : ℕ) (d : Standing) (r : Result Told CheckFault) → d ≡ first_standing s mode → PartTold (part_text t d.trail.program d.trail.mode plan) d.trail.program d.trail.mode plan number r → PartTold (part_text t s mode plan) s mode plan number r
 same_start t s mode plan number d r is h = subst (λ (x : Standing). PartTold (part_text t x.trail.program x.trail.mode plan) x.trail.program x.trail.mode plan number r) is h
 
 -- ---- how many pieces there are
 
-pub put_counted : (s : Program) (mode : Mode) (plan : CheckPlan) (old new : SinkSeen) (text : List ℕ) (count : ℕ) (ps : List Piece) (r : Result Unit CheckFault) → text ≡ count_text count → count ≡ length ps → ps ≡ numbered 0 (pieces_of s mode plan) → AreFew s mode plan → PutCount text old new r
+pub put_counted : (s : Program) (mode : Mode) (plan : SearchPlan) (old new : SinkSeen) (text : List ℕ) (count : ℕ) (ps : List Piece) (r : Result Unit CheckFault) → text ≡ count_text count → count ≡ length ps → ps ≡ numbered 0 (pieces_of s mode plan) → AreFew s mode plan → PutCount text old new r
     → Counted s mode plan old new r
 put_counted s mode plan old new text count ps (Ok u) is many pieces few h = (rw (is ∙ ap count_text (many ∙ count_is (pieces_of s mode plan) ps pieces)) at h, few)
 put_counted s mode plan old new text count ps (Err (Engine WriteFailed)) is many pieces few h = (rw (is ∙ ap count_text (many ∙ count_is (pieces_of s mode plan) ps pieces)) at h, few)
@@ -106,6 +106,6 @@ put_counted s mode plan old new text count ps (Err BadWorkers) is many pieces fe
 put_counted s mode plan old new text count ps (Err TooManyPieces) is many pieces few h = absurd h
 put_counted s mode plan old new text count ps (Err (NoSuchPiece n m)) is many pieces few h = h
 
-pub none_begun : (text : List ℕ → List ℕ) (s : Program) (mode : Mode) (plan : CheckPlan) (number : ℕ) (f : SplitFault) → (f ≡ split.TooManyPieces → PIECES_MAX < length (pieces_of s mode plan)) → PartTold text s mode plan number (Err (split_refused f))
+pub none_begun : (text : List ℕ → List ℕ) (s : Program) (mode : Mode) (plan : SearchPlan) (number : ℕ) (f : SplitFault) → (f ≡ split.TooManyPieces → PIECES_MAX < length (pieces_of s mode plan)) → PartTold text s mode plan number (Err (split_refused f))
 none_begun text s mode plan number split.TooManyPieces many = many refl
 none_begun text s mode plan number split.Memory many = tt

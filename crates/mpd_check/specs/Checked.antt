@@ -6,14 +6,14 @@ use Rattle.mpd_model.specs.declared.call.Mode.{Mode}
 use Rattle.mpd_model.specs.script.Program.{Program}
 use Rattle.mpd_model.specs.steps.World.{start}
 use Rattle.mpd_model.specs.texts.Texts.{line}
-use Rattle.mpd_lines.specs.Seen.{SinkSeen}
-use Rattle.mpd_explore.specs.declared.report.Leaf.{Leaf}
+use Rattle.mpd_model.specs.devices.Seen.{SinkSeen}
+use Rattle.mpd_explore.specs.declared.report.SearchLeaf.{SearchLeaf}
 use Rattle.mpd_explore.specs.Sleeping.{decides_by}
 use Rattle.mpd_explore.specs.ReportText.{report_text}
 use Rattle.mpd_explore.specs.declared.splitter.TheConstants.{PIECES_MAX}
 use Rattle.mpd_explore.specs.Pieces.{pieces, part, part_left, split_report, split_more}
-use Rattle.mpd_check.specs.declared.pool.TheConstants.{WORKERS_MAX}
-use Rattle.mpd_check.specs.declared.pool.CheckPlan.{CheckPlan}
+use Rattle.mpd_pool.specs.declared.pool.TheConstants.{WORKERS_MAX}
+use Rattle.mpd_pool.specs.declared.pool.SearchPlan.{SearchPlan}
 use Rattle.mpd_lines.specs.declared.engine.EngineFault.TheVariants.{ReadFailed, WriteFailed, TooManyTurns, Memory}
 use Rattle.mpd_lines.specs.Telling.{AppendsPart}
 use Rattle.mpd_check.specs.declared.fault.CheckFault.{CheckFault}
@@ -27,25 +27,25 @@ use Rattle.mpd_check.specs.ModeText.{mode_line, least_line}
 -- ---- what is told of a script's runs from its start
 
 -- the choices of each piece
-abbrev pub pieces_of : Program → Mode → CheckPlan → List (List ℕ)
+abbrev pub pieces_of : Program → Mode → SearchPlan → List (List ℕ)
 pieces_of s mode plan = pieces (decides_by plan.limits.ends) plan.split plan.limits.fuel (start s mode)
 
 -- the leaves that are listed, and whether there are more
-abbrev pub leaves_of : Program → Mode → CheckPlan → List Leaf
+abbrev pub leaves_of : Program → Mode → SearchPlan → List SearchLeaf
 leaves_of s mode plan = split_report plan.split plan.limits (start s mode)
 
-abbrev pub more_of : Program → Mode → CheckPlan → Bool
+abbrev pub more_of : Program → Mode → SearchPlan → Bool
 more_of s mode plan = split_more plan.split plan.limits (start s mode)
 
 -- the same of the runs that begin with the choices of one piece
-abbrev pub leaves_at : Program → Mode → CheckPlan → List ℕ → List Leaf
+abbrev pub leaves_at : Program → Mode → SearchPlan → List ℕ → List SearchLeaf
 leaves_at s mode plan choices = part plan.limits choices (start s mode)
 
-abbrev pub more_at : Program → Mode → CheckPlan → List ℕ → Bool
+abbrev pub more_at : Program → Mode → SearchPlan → List ℕ → Bool
 more_at s mode plan choices = part_left plan.limits choices (start s mode)
 
 -- a report of these leaves
-abbrev pub text_of : Program → Mode → CheckPlan → List Leaf → Bool → List ℕ
+abbrev pub text_of : Program → Mode → SearchPlan → List SearchLeaf → Bool → List ℕ
 text_of s mode plan leaves more = report_text (decides_by plan.limits.ends) plan.limits.witnesses [] plan.limits.fuel (start s mode) leaves more
 
 -- how many pieces there are: `pieces 225`
@@ -58,7 +58,7 @@ count_text count = line (codes "pieces " ++ decimal count)
 abbrev pub IsCrew : ℕ → Type 0
 IsCrew workers = (0 < workers) × (workers ≤ WORKERS_MAX)
 
-abbrev pub AreFew : Program → Mode → CheckPlan → Type 0
+abbrev pub AreFew : Program → Mode → SearchPlan → Type 0
 AreFew s mode plan = length (pieces_of s mode plan) ≤ PIECES_MAX
 
 -- the whole text was written
@@ -82,7 +82,7 @@ Put text told old new (Err (NoSuchPiece number count)) = ⊥
 
 -- This text of a whole report was written, or a part of it until a write failed; or nothing: the number of workers is refused, else there
 -- are too many pieces, or memory was refused.
-abbrev pub AnsweredBy : List ℕ → Program → Mode → CheckPlan → ℕ → SinkSeen → SinkSeen → Result Tally CheckFault → Type 0
+abbrev pub AnsweredBy : List ℕ → Program → Mode → SearchPlan → ℕ → SinkSeen → SinkSeen → Result Tally CheckFault → Type 0
 AnsweredBy text s mode plan workers old new (Ok tally) = Wrote text old new × (tally ≡ tally_of (leaves_of s mode plan) (more_of s mode plan)) × IsCrew workers × AreFew s mode plan
 AnsweredBy text s mode plan workers old new (Err (Engine WriteFailed)) = WrotePart text old new × IsCrew workers × AreFew s mode plan
 AnsweredBy text s mode plan workers old new (Err (Engine Memory)) = (new ≡ old) × IsCrew workers
@@ -93,15 +93,15 @@ AnsweredBy text s mode plan workers old new (Err TooManyPieces) = (new ≡ old) 
 AnsweredBy text s mode plan workers old new (Err (NoSuchPiece number count)) = ⊥
 
 -- the whole report
-abbrev pub Answered : Program → Mode → CheckPlan → ℕ → SinkSeen → SinkSeen → Result Tally CheckFault → Type 0
+abbrev pub Answered : Program → Mode → SearchPlan → ℕ → SinkSeen → SinkSeen → Result Tally CheckFault → Type 0
 Answered s mode plan workers old new result = AnsweredBy (text_of s mode plan (leaves_of s mode plan) (more_of s mode plan)) s mode plan workers old new result
 
 -- one line of what it tells
-abbrev pub ModeAnswered : Program → Mode → CheckPlan → ℕ → SinkSeen → SinkSeen → Result Tally CheckFault → Type 0
+abbrev pub ModeAnswered : Program → Mode → SearchPlan → ℕ → SinkSeen → SinkSeen → Result Tally CheckFault → Type 0
 ModeAnswered s mode plan workers old new result = AnsweredBy (mode_line listed.Leaves mode (tally_of (leaves_of s mode plan) (more_of s mode plan))) s mode plan workers old new result
 
 -- The part of the report that the piece of a number has is told; or there are too many pieces, or so few.
-abbrev pub PartTold : (List ℕ → List ℕ) → Program → Mode → CheckPlan → ℕ → Result Told CheckFault → Type 0
+abbrev pub PartTold : (List ℕ → List ℕ) → Program → Mode → SearchPlan → ℕ → Result Told CheckFault → Type 0
 PartTold text s mode plan number (Ok told) =
     (choices : List ℕ) × (slice_get (pieces_of s mode plan) number ≡ Some choices) × AreFew s mode plan
     × (told.text.items ≡ text choices) × (told.tally ≡ tally_of (leaves_at s mode plan choices) (more_at s mode plan choices))
@@ -114,7 +114,7 @@ PartTold text s mode plan number (Err TooManyPieces) = PIECES_MAX < length (piec
 PartTold text s mode plan number (Err (NoSuchPiece asked count)) = (asked ≡ number) × (count ≡ length (pieces_of s mode plan)) × (count ≤ number) × AreFew s mode plan
 
 -- The part of the report that the piece of a number has was written; or nothing: there are too many pieces, or so few.
-abbrev pub PartAnswered : (List ℕ → List ℕ) → Program → Mode → CheckPlan → ℕ → SinkSeen → SinkSeen → Result Tally CheckFault → Type 0
+abbrev pub PartAnswered : (List ℕ → List ℕ) → Program → Mode → SearchPlan → ℕ → SinkSeen → SinkSeen → Result Tally CheckFault → Type 0
 PartAnswered text s mode plan number old new (Ok tally) =
     (choices : List ℕ) × (slice_get (pieces_of s mode plan) number ≡ Some choices) × AreFew s mode plan
     × Wrote (text choices) old new × (tally ≡ tally_of (leaves_at s mode plan choices) (more_at s mode plan choices))
@@ -144,7 +144,7 @@ LeastPut least old new (Err (Engine Memory)) = new ≡ old
 LeastPut least old new result = PutCount (least_line least) old new result
 
 -- How many pieces there are was written; or nothing, where they are too many.
-abbrev pub Counted : Program → Mode → CheckPlan → SinkSeen → SinkSeen → Result Unit CheckFault → Type 0
+abbrev pub Counted : Program → Mode → SearchPlan → SinkSeen → SinkSeen → Result Unit CheckFault → Type 0
 Counted s mode plan old new (Ok done) = Wrote (count_text (length (pieces_of s mode plan))) old new × AreFew s mode plan
 Counted s mode plan old new (Err (Engine WriteFailed)) = WrotePart (count_text (length (pieces_of s mode plan))) old new × AreFew s mode plan
 Counted s mode plan old new (Err (Engine Memory)) = new ≡ old

@@ -6,7 +6,3 @@ pub mod OutcomesText
 pub mod OutcomesRows
 pub mod Checked
 pub mod Listing
-pub mod Numbers
-pub mod Parts
-pub mod Brought
-pub mod Faults

@@ -5,21 +5,21 @@ use Rattle.mpd_model.specs.declared.outcome.Outcome.TheVariants.{Done, Deadlock}
 use Rattle.mpd_model.specs.steps.World.{call_id}
 use Rattle.mpd_model.specs.steps.Outcomes.{issued_by}
 use Rattle.mpd_policy.specs.declared.ending.Ending.TheVariants.{Ended, Cut}
-use Rattle.mpd_explore.specs.declared.report.Leaf.{Leaf}
+use Rattle.mpd_explore.specs.declared.report.SearchLeaf.{SearchLeaf}
 use Rattle.mpd_outcomes.specs.declared.report.Count.{Count}
 use Rattle.mpd_outcomes.specs.declared.report.Count.TheVariants.{Exactly, More}
 use Rattle.mpd_check.specs.OutcomesText.{outcome_lines, outcomes_line}
 
-abbrev done : Leaf
+abbrev done : SearchLeaf
 done = record { choices = 0 ∷ 10 ∷ []; ending = Ended Done }
 
-abbrev deadlock : Leaf
+abbrev deadlock : SearchLeaf
 deadlock = record { choices = 1 ∷ []; ending = Ended (Deadlock (issued_by 3 (call_id 0 1) ∷ issued_by 5 (call_id 2 0) ∷ [])) }
 
-abbrev cut : Leaf
+abbrev cut : SearchLeaf
 cut = record { choices = []; ending = Cut }
 
-abbrev firsts : List Leaf
+abbrev firsts : List SearchLeaf
 firsts = done ∷ deadlock ∷ cut ∷ []
 
 abbrev counts : List Count

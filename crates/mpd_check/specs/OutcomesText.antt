@@ -8,10 +8,11 @@ use Rattle.mpd_model.specs.steps.World.{World, start}
 use Rattle.mpd_model.specs.runs.Trail.{Standing, first_standing, done_steps}
 use Rattle.mpd_model.specs.texts.Texts.{line}
 use Rattle.mpd_policy.specs.Wide.{wide_decision}
-use Rattle.mpd_lines.specs.Seen.{SinkSeen}
-use Rattle.mpd_explore.specs.declared.report.Leaf.{Leaf}
+use Rattle.mpd_model.specs.devices.Seen.{SinkSeen}
+use Rattle.mpd_explore.specs.declared.report.SearchLeaf.{SearchLeaf}
 use Rattle.mpd_explore.specs.ReportText.{leaf_text, more_text}
 use Rattle.mpd_explore.specs.WitnessTexts.{witness_texts}
+use Rattle.mpd_explore.specs.declared.report.Witnesses.{Witnesses}
 use Rattle.mpd_explain.specs.Told.{behind_leaf, text_at}
 use Rattle.mpd_blame.specs.Told.{AreBlamed}
 use Rattle.mpd_outcomes.specs.declared.report.Count.{Count}
@@ -35,11 +36,11 @@ use Rattle.mpd_explain.specs.Explanations.{explained_at}
 -- ---- the text
 
 -- `outcome 1 runs 3 first [0 2] deadlock 0.1 1.0`
-abbrev pub outcome_line : ℕ → Count → Leaf → List ℕ
+abbrev pub outcome_line : ℕ → Count → SearchLeaf → List ℕ
 outcome_line n c l = line (codes "outcome " ++ decimal n ++ codes " runs " ++ count_text c ++ codes " first " ++ leaf_text l)
 
 -- the lines of ways to end, by their first runs and how many runs end so, of which the first is number n
-abbrev pub outcome_lines : List (List ℕ) → List (List ℕ) → List (List ℕ) → ℕ → List Leaf → List Count → List ℕ
+abbrev pub outcome_lines : List (List ℕ) → List (List ℕ) → List (List ℕ) → ℕ → List SearchLeaf → List Count → List ℕ
 outcome_lines witnesses texts lines n [] cs = []
 outcome_lines witnesses texts lines n (l ∷ ls) [] = []
 outcome_lines witnesses texts lines n (l ∷ ls) (c ∷ cs) = outcome_line n c l ++ behind_leaf witnesses texts n ++ text_at (slice_get lines n) ++ outcome_lines witnesses texts lines (suc n) ls cs
@@ -52,12 +53,12 @@ abbrev pub outcomes_text : List (List ℕ) → List (List ℕ) → List (List �
 outcomes_text witnesses texts lines o = outcome_lines witnesses texts lines 0 o.firsts.leaves.items o.counts.items ++ outcomes_line (length o.firsts.leaves.items) o.total o.firsts.more
 
 -- the same where a debugger stands: with the witnesses of the first runs and their explanations, where they are asked for
-abbrev pub outcomes_at : Bool → Bool → ℕ → Standing → List (List ℕ) → Outcomes → List ℕ
+abbrev pub outcomes_at : Bool → Witnesses → ℕ → Standing → List (List ℕ) → Outcomes → List ℕ
 outcomes_at explain witnesses fuel d lines o =
     outcomes_text (witness_texts wide_decision witnesses (done_steps d.trail) fuel d.world o.firsts.leaves.items) (explained_at wide_decision explain fuel d o.firsts.leaves.items) lines o
 
 -- the lines of the steps that decided how the first runs end, where they are explained
-abbrev pub AreDecided : Bool → StateLimits → Standing → List Leaf → List (List ℕ) → Type 0
+abbrev pub AreDecided : Bool → StateLimits → Standing → List SearchLeaf → List (List ℕ) → Type 0
 AreDecided false limits d leaves lines = lines ≡ []
 AreDecided true limits d leaves lines = AreBlamed limits.visited limits.fuel d leaves lines
 

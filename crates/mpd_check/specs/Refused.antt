@@ -2,8 +2,8 @@
 use Rattle.mpd_lines.specs.declared.engine.EngineFault.TheVariants as engine
 use Rattle.mpd_explore.specs.declared.splitter.SplitFault.{SplitFault}
 use Rattle.mpd_explore.specs.declared.splitter.SplitFault.TheVariants as split
-use Rattle.mpd_check.specs.declared.pool.PoolFault.{PoolFault}
-use Rattle.mpd_check.specs.declared.pool.PoolFault.TheVariants as pool
+use Rattle.mpd_pool.specs.declared.pool.PoolFault.{PoolFault}
+use Rattle.mpd_pool.specs.declared.pool.PoolFault.TheVariants as pool
 use Rattle.mpd_check.specs.declared.fault.CheckFault.{CheckFault}
 use Rattle.mpd_check.specs.declared.fault.CheckFault.TheVariants.{BadWorkers, TooManyPieces, Engine}
 

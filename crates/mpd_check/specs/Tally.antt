@@ -8,7 +8,7 @@ use Rattle.mpd_model.specs.script.Program.{Program, IsBlockOf}
 use Rattle.mpd_policy.specs.declared.ending.Ending.{Ending}
 use Rattle.mpd_policy.specs.declared.ending.Ending.TheVariants.{Ended}
 use Rattle.mpd_policy.specs.declared.ending.Ending.TheVariants as ends
-use Rattle.mpd_explore.specs.declared.report.Leaf.{Leaf}
+use Rattle.mpd_explore.specs.declared.report.SearchLeaf.{SearchLeaf}
 use Rattle.mpd_lines.specs.declared.verdict.Verdict.{Verdict}
 use Rattle.mpd_lines.specs.declared.verdict.Verdict.TheVariants.{Good, Bad, NotWhole}
 use Rattle.mpd_check.specs.declared.counts.Kind.{Kind}
@@ -22,10 +22,10 @@ ends_so Trap (Ended (outcome.Trap ranks)) = true
 ends_so Cut ends.Cut = true
 ends_so kind ending = false
 
-abbrev pub is_of : Kind → Leaf → Bool
+abbrev pub is_of : Kind → SearchLeaf → Bool
 is_of kind l = ends_so kind l.ending
 
-abbrev pub tally_of : List Leaf → Bool → Tally
+abbrev pub tally_of : List SearchLeaf → Bool → Tally
 tally_of leaves more = record {
   runs = length leaves;
   leftovers = count_by (is_of Leftovers) leaves;

@@ -5,7 +5,7 @@ ghost use Rattle.std.specs.Bool.{Decides};
 ghost use Rattle.mpd_check.specs.Tally.{tally_of, is_of, is_bad, is_whole, LeavesOutNone, TellsAll, verdict_of};
 
 use mpd_code::Subject;
-use mpd_explore::{Ending, Leaf, Report};
+use mpd_explore::{Ending, SearchLeaf, SearchReport};
 use mpd_lines::Verdict;
 use mpd_model::{Mode, Outcome};
 
@@ -90,7 +90,7 @@ fn leaves_out_none(subject: Subject<'_>, is_wide: bool) -> bool
 }
 
 /// Whether a run ends in this kind.
-fn is_of(kind: Kind, leaf: &Leaf) -> bool
+fn is_of(kind: Kind, leaf: &SearchLeaf) -> bool
     ensures { result ≡ is_of kind leaf.now }
 {
     match &leaf.ending {
@@ -103,7 +103,7 @@ fn is_of(kind: Kind, leaf: &Leaf) -> bool
 }
 
 /// How many of some runs end so.
-fn count(kind: Kind, leaves: &[Leaf]) -> usize
+fn count(kind: Kind, leaves: &[SearchLeaf]) -> usize
     ensures { result ≡ count_by (is_of kind) leaves.now }
 {
     let mut found = 0;
@@ -116,7 +116,7 @@ fn count(kind: Kind, leaves: &[Leaf]) -> usize
 }
 
 /// What a report tells.
-pub(crate) fn tally_of(report: &Report) -> Tally
+pub(crate) fn tally_of(report: &SearchReport) -> Tally
     ensures { result ≡ tally_of report.now.leaves.items report.now.more }
 {
     Tally {

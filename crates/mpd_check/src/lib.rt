@@ -3,18 +3,11 @@
 #![tactic(auto)]
 
 pub mod counts;
-pub mod deque;
 pub mod fault;
-pub mod gate;
-mod join;
 pub mod listing;
 pub mod modes;
 pub mod outcomes;
 pub mod part;
-pub mod pool;
-pub mod print;
-mod slots;
-mod work;
 
 ghost use Rattle.mpd_check.specs.Checked.{pieces_of, leaves_of, more_of, text_of, AreFew, IsCrew, Answered, Put};
 ghost use Rattle.mpd_check.specs.Refused.{refused_by};
@@ -23,20 +16,17 @@ ghost use Rattle.std.specs.Prelude.{◌≡◌, ◌↔◌, ◌≤◌, ◌<◌, �
 
 use crate::counts::tally_of;
 pub use counts::Tally;
-pub use deque::{EachOnce, Given, Hand, Owner, Pushed, Taken, Thief, WorkerPass, filled};
 pub use fault::CheckFault;
-pub use gate::{Gate, Ungated};
 pub use listing::{SamplePlan, Telling, Wanted, check_listing, check_sample};
 pub use modes::{Tried, check_mode, put_least};
 use mpd_code::Subject;
-use mpd_core::Debugger;
 use mpd_explore::PIECES_MAX;
-use mpd_lines::{EngineFault, Sink, write_all};
-use mpd_model::STEPS_MAX;
+use mpd_lines::{EngineFault, write_all};
+use mpd_model::{STEPS_MAX, Sink};
+use mpd_pool::{Crew, Gate, PoolFault, SearchPlan, WORKERS_MAX, print_report};
+use mpd_trail::Debugger;
 pub use outcomes::{OutcomesFound, OutcomesPlan, check_mode_outcomes, check_outcomes};
 pub use part::{check_piece, count_pieces};
-pub use pool::{CheckPlan, Crew, PoolFault, WORKERS_MAX, check_by_workers};
-pub use print::print_report;
 use std::alloc::Global;
 use std::marker::Sync;
 use std::thread::Threads;
@@ -81,7 +71,7 @@ fn tell<G: Gate, R: Threads + Sync>(
     crew: Crew<'_, R>,
     alloc: Global,
     subject: Subject<'_>,
-    plan: CheckPlan,
+    plan: SearchPlan,
     gate: &G,
 ) -> Result<Told, PoolFault>
     requires { plan.limits.fuel ≤ STEPS_MAX }
@@ -94,7 +84,7 @@ fn tell<G: Gate, R: Threads + Sync>(
     let Ok(mut debugger) = Debugger::start(alloc, subject.code, subject.mode) else {
         return Err(PoolFault::Memory);
     };
-    let report = match crate::check_by_workers(crew, alloc, &mut debugger, plan, gate) {
+    let report = match mpd_pool::check_watched(crew, alloc, &mut debugger, plan, gate) {
         Ok(report) => report,
         Err(fault) => {
             drop(debugger);
@@ -125,7 +115,7 @@ pub fn check<W: Sink, G: Gate, R: Threads + Sync>(
     crew: Crew<'_, R>,
     alloc: Global,
     subject: Subject<'_>,
-    plan: CheckPlan,
+    plan: SearchPlan,
     sink: &mut W,
     gate: &G,
 ) -> Result<Tally, CheckFault>

@@ -1,9 +1,9 @@
 //! A report that is explained, or whose leaves are grouped by how they end; and a sample of a script's runs (docs/FORMATS.md, "Reports").
 
-ghost use Rattle.std.specs.Prelude.{◌≡◌, ◌≤◌, ◌<◌, ◌+◌, ◌⊎◌, ◌&&◌, false, not, IfOk, OnOk, IsErrOf, length, map, string_bytes};
+ghost use Rattle.std.specs.Prelude.{◌≡◌, ◌≤◌, ◌<◌, ◌+◌, ◌⊎◌, false, IfOk, OnOk, IsErrOf, length, map, string_bytes, if◌then◌else◌};
 ghost use Rattle.std.specs.List.{AllByRecursion};
 ghost use Rattle.mpd_model.specs.runs.Trail.{done_steps, IsReached};
-ghost use Rattle.mpd_core.specs.DebuggerViews.{standing_of};
+ghost use Rattle.mpd_trail.specs.DebuggerViews.{standing_of};
 ghost use Rattle.mpd_policy.specs.Wide.{wide_decision};
 ghost use Rattle.mpd_explore.specs.Sleeping.{decides_by};
 ghost use Rattle.mpd_explore.specs.Witness.{HasWitness};
@@ -16,18 +16,17 @@ ghost use Rattle.mpd_check.specs.Tally.{tally_of};
 
 use crate::counts::{Tally, tally_of};
 use crate::fault::CheckFault;
-use crate::gate::Gate;
-use crate::pool::{CheckPlan, Crew, PoolFault, WORKERS_MAX};
 use crate::{Told, is_crew, put, refused};
 use mpd_code::Subject;
-use mpd_core::Debugger;
 use mpd_explain::{Beside, explain_all, print_explained, print_grouped};
-use mpd_explore::{Limits, PIECES_MAX, Report, Watch};
-use mpd_lines::{EngineFault, Sink, write_all};
+use mpd_explore::{PIECES_MAX, SearchLimits, SearchReport, Watch, Witnesses};
+use mpd_lines::{EngineFault, write_all};
 use mpd_marks::push_marked;
-use mpd_model::STEPS_MAX;
+use mpd_model::{STEPS_MAX, Sink};
 use mpd_policy::{Plain, Schedule, Wide};
+use mpd_pool::{Crew, Gate, PoolFault, SearchPlan, WORKERS_MAX};
 use mpd_runs::sample;
+use mpd_trail::Debugger;
 use std::alloc::{AllocError, Global};
 use std::marker::Sync;
 use std::thread::Threads;
@@ -47,7 +46,7 @@ pub struct Telling<'t> {
 #[derive(Clone, Copy)]
 pub struct Wanted<'t> {
     /// How the runs are cut into pieces, and the limits of each.
-    pub plan: CheckPlan,
+    pub plan: SearchPlan,
     /// What it has beside its leaves.
     pub telling: Telling<'t>,
 }
@@ -58,7 +57,7 @@ pub struct SamplePlan {
     /// What the generator is seeded with.
     pub seed: u64,
     /// How many runs are drawn, the fuel of each, and what else is asked of a report.
-    pub limits: Limits,
+    pub limits: SearchLimits,
 }
 
 /// The explanations of the leaves of a report, if they are asked for. The debugger is left as
@@ -67,7 +66,7 @@ pub(crate) fn explanations_of<S: Schedule>(
     alloc: Global,
     schedule: &S,
     debugger: &mut Debugger<'_>,
-    report: &Report,
+    report: &SearchReport,
     fuel: usize,
     asked: bool,
 ) -> Result<Vec<String>, AllocError>
@@ -84,11 +83,16 @@ pub(crate) fn explanations_of<S: Schedule>(
 
 /// The limits by which a report is made: if it is grouped, no texts of witnesses, since those of
 /// the first leaves are made afterwards.
-pub(crate) fn limits_for(limits: Limits, telling: Telling<'_>) -> Limits
-    ensures { result ≡ record limits { witnesses = limits.witnesses && not telling.entry.group } }
+pub(crate) fn limits_for(limits: SearchLimits, telling: Telling<'_>) -> SearchLimits
+    ensures { result ≡ record limits { witnesses = if telling.entry.group then Witnesses.OfNone else limits.witnesses } }
 {
-    Limits {
-        witnesses: limits.witnesses && !telling.group,
+    let witnesses = if telling.group {
+        Witnesses::OfNone
+    } else {
+        limits.witnesses
+    };
+    SearchLimits {
+        witnesses,
         ..limits
     }
 }
@@ -99,8 +103,8 @@ fn text_of<S: Schedule>(
     alloc: Global,
     schedule: &S,
     debugger: &mut Debugger<'_>,
-    report: &Report,
-    limits: Limits,
+    report: &SearchReport,
+    limits: SearchLimits,
     telling: Telling<'_>,
 ) -> Result<String, AllocError>
     requires clean { length debugger.old.trail.steps ≡ debugger.old.trail.depth }
@@ -152,8 +156,8 @@ fn told_of<S: Schedule>(
     alloc: Global,
     schedule: &S,
     debugger: &mut Debugger<'_>,
-    report: &Report,
-    limits: Limits,
+    report: &SearchReport,
+    limits: SearchLimits,
     telling: Telling<'_>,
 ) -> Result<Told, AllocError>
     requires clean { length debugger.old.trail.steps ≡ debugger.old.trail.depth }
@@ -174,8 +178,8 @@ fn told_of<S: Schedule>(
 pub(crate) fn told_by(
     alloc: Global,
     debugger: &mut Debugger<'_>,
-    report: &Report,
-    limits: Limits,
+    report: &SearchReport,
+    limits: SearchLimits,
     telling: Telling<'_>,
 ) -> Result<Told, AllocError>
     requires clean { length debugger.old.trail.steps ≡ debugger.old.trail.depth }
@@ -209,11 +213,11 @@ fn tell_listing<G: Gate, R: Threads + Sync>(
     let Ok(mut debugger) = Debugger::start(alloc, subject.code, subject.mode) else {
         return Err(PoolFault::Memory);
     };
-    let plan = CheckPlan {
+    let plan = SearchPlan {
         limits: limits_for(wanted.plan.limits, wanted.telling),
         ..wanted.plan
     };
-    let report = match crate::check_by_workers(crew, alloc, &mut debugger, plan, gate) {
+    let report = match mpd_pool::check_watched(crew, alloc, &mut debugger, plan, gate) {
         Ok(report) => report,
         Err(fault) => {
             drop(debugger);

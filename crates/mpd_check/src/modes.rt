@@ -7,14 +7,13 @@ ghost use Rattle.mpd_check.specs.Tally.{judged, tally_of};
 
 use crate::counts::{Tally, tally_of};
 use crate::fault::CheckFault;
-use crate::gate::Gate;
-use crate::pool::{CheckPlan, Crew, PoolFault, WORKERS_MAX};
 use crate::{Told, is_crew, put, refused};
 use mpd_code::Subject;
-use mpd_core::Debugger;
 use mpd_explore::PIECES_MAX;
-use mpd_lines::{EngineFault, Sink, Verdict, write_all};
-use mpd_model::{Mode, STEPS_MAX};
+use mpd_lines::{EngineFault, Verdict, write_all};
+use mpd_model::{Mode, STEPS_MAX, Sink};
+use mpd_pool::{Crew, Gate, PoolFault, SearchPlan, WORKERS_MAX};
+use mpd_trail::Debugger;
 use std::alloc::{AllocError, Global};
 use std::marker::Sync;
 use std::thread::Threads;
@@ -149,7 +148,7 @@ fn tally_in<G: Gate, R: Threads + Sync>(
     crew: Crew<'_, R>,
     alloc: Global,
     subject: Subject<'_>,
-    plan: CheckPlan,
+    plan: SearchPlan,
     gate: &G,
 ) -> Result<Tally, PoolFault>
     requires { plan.limits.fuel ≤ STEPS_MAX }
@@ -161,7 +160,7 @@ fn tally_in<G: Gate, R: Threads + Sync>(
     let Ok(mut debugger) = Debugger::start(alloc, subject.code, subject.mode) else {
         return Err(PoolFault::Memory);
     };
-    match crate::check_by_workers(crew, alloc, &mut debugger, plan, gate) {
+    match mpd_pool::check_watched(crew, alloc, &mut debugger, plan, gate) {
         Ok(report) => {
             drop(debugger);
             let tally = tally_of(&report);
@@ -182,7 +181,7 @@ pub fn check_mode<W: Sink, G: Gate, R: Threads + Sync>(
     crew: Crew<'_, R>,
     alloc: Global,
     subject: Subject<'_>,
-    plan: CheckPlan,
+    plan: SearchPlan,
     sink: &mut W,
     gate: &G,
 ) -> Result<Tally, CheckFault>

@@ -6,7 +6,7 @@ ghost use Rattle.std.specs.List.{AllByRecursion};
 ghost use Rattle.mpd_model.specs.runs.Trail.{done_steps, first_standing};
 ghost use Rattle.mpd_policy.specs.Wide.{wide_decision};
 ghost use Rattle.mpd_explore.specs.Witness.{HasWitness};
-ghost use Rattle.mpd_core.specs.DebuggerViews.{AsFound, standing_of};
+ghost use Rattle.mpd_trail.specs.DebuggerViews.{AsFound, standing_of};
 ghost use Rattle.mpd_explain.specs.Told.{behind_leaf};
 ghost use Rattle.mpd_outcomes.specs.Goals.{AreTold};
 ghost use Rattle.mpd_check.specs.OutcomesText.{found_in, outcome_line, outcome_lines, outcomes_line, outcomes_text, AreDecided, IsModeLine, IsOutcomesText, IsTextOf, ModeOutcomesAnswered, OutcomesAnswered, PutOutcomes};
@@ -16,14 +16,14 @@ use crate::listing::{explanations_of, marked_if};
 use crate::modes::{Listed, line_of};
 use mpd_blame::blame_lines;
 use mpd_code::Subject;
-use mpd_core::Debugger;
 use mpd_explain::{push_behind, text_at};
-use mpd_explore::{Leaf, push_leaf_text};
-use mpd_lines::{EngineFault, Sink, write_all};
-use mpd_model::STEPS_MAX;
+use mpd_explore::{SearchLeaf, push_leaf_text};
+use mpd_lines::{EngineFault, write_all};
+use mpd_model::{STEPS_MAX, Sink};
 use mpd_outcomes::{Count, Outcomes, StateLimits, explore_outcomes, push_count};
 use mpd_policy::Wide;
 use mpd_runs::{WayCounts, counts_told};
+use mpd_trail::Debugger;
 use std::alloc::{AllocError, Global};
 
 /// How the ways to end are looked for.
@@ -60,7 +60,7 @@ fn push_outcome(
     alloc: Global,
     out: &mut String,
     number: usize,
-    first: &Leaf,
+    first: &SearchLeaf,
     count: Count,
 ) -> Result<(), AllocError>
     ensures { OnOk result (string_bytes out.new ≡ string_bytes out.old ++ outcome_line number count first.now) }
@@ -136,7 +136,7 @@ fn lines_of(
     alloc: Global,
     debugger: &mut Debugger<'_>,
     plan: OutcomesPlan<'_>,
-    leaves: &[Leaf],
+    leaves: &[SearchLeaf],
 ) -> Result<Vec<String>, AllocError>
     requires clean { length debugger.old.trail.steps ≡ debugger.old.trail.depth }
     requires at_start { debugger.old.trail.depth ≡ 0 }

@@ -2,7 +2,7 @@
 
 ghost use Rattle.std.specs.Prelude.{◌≡◌, ◌≤◌, ◌<◌, IfOk, OnOk, IsErrOf, length, string_bytes};
 ghost use Rattle.mpd_model.specs.runs.Trail.{first_standing};
-ghost use Rattle.mpd_core.specs.DebuggerViews.{standing_of};
+ghost use Rattle.mpd_trail.specs.DebuggerViews.{standing_of};
 ghost use Rattle.mpd_explore.specs.Sleeping.{decides_by};
 ghost use Rattle.mpd_explore.specs.Pieces.{numbered, Reaches};
 ghost use Rattle.mpd_check.specs.Checked.{pieces_of, leaves_at, more_at, count_text, AreFew, Counted, PartAnswered, PartTold};
@@ -14,13 +14,13 @@ use crate::counts::Tally;
 use crate::fault::CheckFault;
 use crate::listing::{Wanted, limits_for, told_by};
 use crate::modes::put_text;
-use crate::pool::CheckPlan;
 use crate::{Told, put};
 use mpd_code::Subject;
-use mpd_core::Debugger;
-use mpd_explore::{PIECES_MAX, Piece, SplitFault, Watch, explore_at, split};
-use mpd_lines::{EngineFault, Sink};
-use mpd_model::STEPS_MAX;
+use mpd_explore::{PIECES_MAX, Piece, SplitFault, Watch, explore_at_watched, split_by};
+use mpd_lines::EngineFault;
+use mpd_model::{STEPS_MAX, Sink};
+use mpd_pool::SearchPlan;
+use mpd_trail::Debugger;
 use std::alloc::{AllocError, Global};
 
 /// A debugger at the start of a script, and the pieces of its runs.
@@ -31,7 +31,7 @@ struct Begun<'c> {
 }
 
 /// Starts a script, and cuts its runs into pieces.
-fn begin<'c>(alloc: Global, subject: Subject<'c>, plan: CheckPlan) -> Result<Begun<'c>, SplitFault>
+fn begin<'c>(alloc: Global, subject: Subject<'c>, plan: SearchPlan) -> Result<Begun<'c>, SplitFault>
     requires { plan.limits.fuel ≤ STEPS_MAX }
     ensures standing { IfOk result (λ b. standing_of b.debugger ≡ first_standing subject.entry.code.now.program subject.entry.mode) }
     ensures pieces { IfOk result (λ b. b.pieces.items ≡ numbered 0 (pieces_of subject.entry.code.now.program subject.entry.mode plan)) }
@@ -41,7 +41,7 @@ fn begin<'c>(alloc: Global, subject: Subject<'c>, plan: CheckPlan) -> Result<Beg
     let Ok(mut debugger) = Debugger::start(alloc, subject.code, subject.mode) else {
         return Err(SplitFault::Memory);
     };
-    match split(alloc, &mut debugger, plan.split, plan.limits) {
+    match split_by(alloc, &mut debugger, plan.split, plan.limits) {
         Ok(pieces) => Ok(Begun { debugger, pieces }),
         Err(fault) => {
             drop(debugger);
@@ -75,7 +75,7 @@ fn count_text(alloc: Global, count: usize) -> Result<String, AllocError>
 pub fn count_pieces<W: Sink>(
     alloc: Global,
     subject: Subject<'_>,
-    plan: CheckPlan,
+    plan: SearchPlan,
     sink: &mut W,
 ) -> Result<(), CheckFault>
     requires { plan.limits.fuel ≤ STEPS_MAX }
@@ -109,7 +109,7 @@ fn tell_at<P: Watch>(
 {
     let limits = wanted.plan.limits;
     let asked = limits_for(limits, wanted.telling);
-    let report = explore_at(alloc, debugger, &piece.choices.items, asked, watch)?;
+    let report = explore_at_watched(alloc, debugger, &piece.choices.items, asked, watch)?;
     let told = told_by(alloc, debugger, &report, limits, wanted.telling);
     drop(report);
     told

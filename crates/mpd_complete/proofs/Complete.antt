@@ -11,7 +11,7 @@ use Rattle.mpd_model.specs.script.Program.{Program}
 use Rattle.mpd_model.specs.steps.World.{World, start}
 use Rattle.mpd_model.specs.steps.Next.{next, fold}
 use Rattle.mpd_model.specs.runs.Trail.{step_eq}
-use Rattle.mpd_core.proofs.TrailLemmas.{step_eq-true}
+use Rattle.mpd_trail.proofs.TrailLemmas.{step_eq-true}
 use Rattle.mpd_policy.specs.declared.ending.Ending.TheVariants.{Ended, Cut}
 use Rattle.mpd_policy.specs.Walk.{Run, here, stepped, chosen, runs_of, branches, followed, stopped, wide_walk}
 use Rattle.mpd_explore.specs.Sleeping.{awake_runs, put_to_sleep, awake_by, sleeping_wide_walk}

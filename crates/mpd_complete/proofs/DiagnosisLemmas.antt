@@ -7,7 +7,7 @@ use Rattle.mpd_model.specs.script.Program.{Program}
 use Rattle.mpd_model.specs.steps.World.{World, start}
 use Rattle.mpd_model.specs.runs.Trail.{first_standing}
 use Rattle.mpd_policy.specs.Walk.{wide_walk}
-use Rattle.mpd_explore.specs.declared.report.Leaf.{Leaf}
+use Rattle.mpd_explore.specs.declared.report.SearchLeaf.{SearchLeaf}
 use Rattle.mpd_explore.specs.Report.{shown}
 use Rattle.mpd_explore.proofs.ListedLemmas.{both_true, not_less}
 use Rattle.mpd_lines.specs.declared.verdict.Verdict.TheVariants.{Good, Bad, NotWhole}
@@ -46,10 +46,10 @@ none_here : (b : Bool) (n : ℕ) → cond b 1 0 + n ≡ 0 → (b ≡ false) × (
 none_here true n h = absurd (omega (arith, h))
 none_here false n h = (refl, omega (arith, h))
 
-none_in : (x : Way) (ls : List Leaf) → count_in x ls ≡ 0 → (l : Leaf) → In ls l → ends_in x l ≡ false
+none_in : (x : Way) (ls : List SearchLeaf) → count_in x ls ≡ 0 → (l : SearchLeaf) → In ls l → ends_in x l ≡ false
 none_in x [] none l h = absurd h
 none_in x (k ∷ ls) none l h =
-    let both = none_here (ends_in x k) (count_in x ls) (sym (sum_by-cons (λ (m : Leaf). cond (ends_in x m) 1 0) k ls) ∙ none) in
+    let both = none_here (ends_in x k) (count_in x ls) (sym (sum_by-cons (λ (m : SearchLeaf). cond (ends_in x m) 1 0) k ls) ∙ none) in
     elim h [
       | inl same ↦ ap (ends_in x) (sym same) ∙ both.0
       | inr later ↦ none_in x ls both.1 l later
@@ -68,8 +68,8 @@ good_tells script file ranks limits most runs s mode told strict h good =
     let u : World = start s mode in
     let o = h.is_first.0 in
     let t = h.is_first.1.0.told in
-    let all : List Leaf = leaves_from fuel u in
-    let ls : List Leaf = take t.runs all in
+    let all : List SearchLeaf = leaves_from fuel u in
+    let ls : List SearchLeaf = take t.runs all in
     let more : Bool = o.firsts.more in
     let are : told.counts ≡ counts_of ls more = h.is_first.2.counts_are ∙ counts_are fuel u o t _ _ _ _ _ refl refl refl refl refl in
     let both = judged (ends_well told.counts) (is_untidy strict told.counts) (is_bad_if strict told.drawn) (sees_all told.counts) good in

@@ -14,7 +14,7 @@ use Rattle.mpd_model.specs.steps.World.{World, Board, start, id_eq, kind_at, par
 use Rattle.mpd_model.specs.steps.Next.{local_at, next, fold}
 use Rattle.mpd_model.specs.runs.Decisions.{is_open_match}
 use Rattle.mpd_model.specs.runs.Trail.{step_eq}
-use Rattle.mpd_core.proofs.TrailLemmas.{step_eq-same}
+use Rattle.mpd_trail.proofs.TrailLemmas.{step_eq-same}
 use Rattle.mpd_policy.specs.Wide.{lacks_slot, issues_standard, is_full, conflict, is_asleep, sleeps_on, wide_decision}
 use Rattle.mpd_policy.proofs.QuietLemmas.{never_full}
 use Rattle.mpd_policy.specs.Asleep.{same_match}

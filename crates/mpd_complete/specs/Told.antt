@@ -15,8 +15,8 @@ use Rattle.mpd_outcomes.specs.declared.report.StateLimits.{StateLimits}
 use Rattle.mpd_diagnose.specs.declared.diagnosis.Diagnosis.{Diagnosis}
 use Rattle.mpd_diagnose.specs.Diagnosed.{IsDiagnosis}
 use Rattle.mpd_diagnose.specs.Verdicts.{verdict_of}
-use Rattle.mpd_explore.specs.declared.report.Limits.{Limits}
-use Rattle.mpd_check.specs.declared.pool.CheckPlan.{CheckPlan}
+use Rattle.mpd_explore.specs.declared.report.SearchLimits.{SearchLimits}
+use Rattle.mpd_pool.specs.declared.pool.SearchPlan.{SearchPlan}
 use Rattle.mpd_runs.specs.declared.search.Scope.{Scope}
 use Rattle.mpd_runs.specs.Runs.{fuel_at, sees_all}
 use Rattle.mpd_runs.specs.Seek.{runs_in, counts_in}
@@ -31,13 +31,13 @@ use Rattle.mpd_complete.specs.Reported.{HaveAllOutcomes, BoundsAllRuns}
 -- script's start has at most as many steps as the fuel, can be continued until no step is enabled, and ends as a leaf does.
 abbrev pub ChecksTellAllEnds : Type 0
 ChecksTellAllEnds =
-    (s : Program) (mode : Mode) (plan : CheckPlan) → TellsAll plan.limits.ends s mode (tally_of (leaves_of s mode plan) (more_of s mode plan))
+    (s : Program) (mode : Mode) (plan : SearchPlan) → TellsAll plan.limits.ends s mode (tally_of (leaves_of s mode plan) (more_of s mode plan))
     → HaveAllOutcomes (leaves_of s mode plan) (start s mode) × BoundsAllRuns plan.limits.fuel (start s mode)
 
 -- So it is of the leaves of a sample.
 abbrev pub SamplesTellAllEnds : Type 0
 SamplesTellAllEnds =
-    (s : Program) (mode : Mode) (seed : ℕ) (l : Limits) → TellsAll true s mode (tally_of (sample_leaves s mode seed l) (sample_more s mode seed l))
+    (s : Program) (mode : Mode) (seed : ℕ) (l : SearchLimits) → TellsAll true s mode (tally_of (sample_leaves s mode seed l) (sample_more s mode seed l))
     → HaveAllOutcomes (sample_leaves s mode seed l) (start s mode) × BoundsAllRuns l.fuel (start s mode)
 
 -- So it is of the first runs that are told with the outcomes of a script, though other runs are not told.

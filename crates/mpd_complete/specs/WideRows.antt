@@ -14,8 +14,9 @@ use Rattle.mpd_policy.specs.Wide.{is_full, conflict, is_quiet, sleeps_on, wide_d
 use Rattle.mpd_policy.specs.declared.ending.Ending.{Ending}
 use Rattle.mpd_policy.specs.declared.ending.Ending.TheVariants.{Ended}
 use Rattle.mpd_policy.specs.Walk.{Run, walk, wide_walk}
-use Rattle.mpd_explore.specs.declared.report.Leaf.{Leaf}
-use Rattle.mpd_explore.specs.declared.report.Limits.{Limits}
+use Rattle.mpd_explore.specs.declared.report.SearchLeaf.{SearchLeaf}
+use Rattle.mpd_explore.specs.declared.report.Witnesses.TheVariants.{OfNone}
+use Rattle.mpd_explore.specs.declared.report.SearchLimits.{SearchLimits}
 use Rattle.mpd_explore.specs.Sleeping.{awake_by, sleeping_wide_walk}
 use Rattle.mpd_explore.specs.Report.{left_out}
 use Rattle.mpd_complete.specs.SlotsRows.{ending_there, both_there, first_pair, behind}
@@ -83,11 +84,11 @@ row_twice = refl
 
 -- ---- a report of each end once, and one of every order
 
-abbrev asked : Bool → Limits
-asked ends = record { runs = 9; fuel = 6; witnesses = false; until_bad = false; ends = ends }
+abbrev asked : Bool → SearchLimits
+asked ends = record { runs = 9; fuel = 6; witnesses = OfNone; until_bad = false; ends = ends }
 
 -- both say that there are no more, and none is cut, but the one of every order lacks the trap
-pub row_reported : map {B = Bool × List Ending} (λ (ends : Bool). (left_out (asked ends) (all_leaves (asked ends) (start asserting Buffered)), map (λ (x : Leaf). x.ending) (reported (asked ends) (start asserting Buffered)))) (true ∷ false ∷ [])
+pub row_reported : map {B = Bool × List Ending} (λ (ends : Bool). (left_out (asked ends) (all_leaves (asked ends) (start asserting Buffered)), map (λ (x : SearchLeaf). x.ending) (reported (asked ends) (start asserting Buffered)))) (true ∷ false ∷ [])
     ≡ (false, Ended o.Done ∷ Ended (o.Trap (record { rank = 0; statement = 3; trap = Assertion } ∷ [])) ∷ []) ∷ (false, Ended o.Done ∷ []) ∷ []
 unfolding walk awake_by decision wide_decision
 row_reported = refl

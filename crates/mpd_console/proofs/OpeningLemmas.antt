@@ -12,9 +12,9 @@ use Rattle.mpd_model.specs.runs.Trail.{Standing, IsReached, IsRun, done_steps}
 use Rattle.mpd_model.specs.steps.Outcomes.{outcome}
 use Rattle.mpd_policy.specs.declared.ending.Ending.{Ending}
 use Rattle.mpd_policy.specs.declared.ending.Ending.TheVariants.{Ended, Cut}
-use Rattle.mpd_explore.specs.declared.report.Witness.{Witness}
+use Rattle.mpd_explore.specs.declared.report.EndWitness.{EndWitness}
 use Rattle.mpd_explore.specs.declared.report.WitnessEnd.{WitnessEnd}
-use Rattle.mpd_explore.specs.Witness.{end_in, end_of, IsWitness}
+use Rattle.mpd_explore.specs.Witness.{end_in, end_of, IsEndWitness}
 use Rattle.mpd_runs.specs.declared.given.StepsFault.{StepsFault}
 use Rattle.mpd_runs.specs.declared.given.StepsFault.TheVariants.{NotEnabled}
 use Rattle.mpd_runs.specs.Given.{StopsAt}
@@ -58,7 +58,7 @@ end_there : (w : World) (e : Ending) (end : WitnessEnd) → EndsAs w e → end_i
 end_there w (Ended o) end ends is = sym (ap end_in ends) ∙ is
 end_there w Cut end ends is = let none : end_in (outcome w) ≡ None = ap end_in ends in cc
 
-pub said_of_witness : (s : Program) (mode : Mode) (p : Look) (script : List ℕ) (x : Witness) (text : List ℕ) → IsWitness s mode x → AlongSaid s mode p script x.steps text → WitnessSaid s mode p script x text
+pub said_of_witness : (s : Program) (mode : Mode) (p : Look) (script : List ℕ) (x : EndWitness) (text : List ℕ) → IsEndWitness s mode x → AlongSaid s mode p script x.steps text → WitnessSaid s mode p script x text
 said_of_witness s mode p script x text is h =
     let same : is.last ≡ h.1.last = same_world is.last h.1.last (sym is.leads ∙ h.1.leads) in
     (h.0, end_there h.1.last h.0 x.end h.1.ends (ap (λ v. end_in (outcome v)) (sym same) ∙ is.ends), h.1, h.2)

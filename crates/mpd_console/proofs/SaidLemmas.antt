@@ -5,7 +5,7 @@ use Rattle.std.specs.Prelude.{option_and_then, IfSome}
 use Rattle.mpd_model.specs.declared.breakpoint.Break.{Break}
 use Rattle.mpd_model.specs.steps.World.{World}
 use Rattle.mpd_model.specs.runs.Trail.{Trail, IsReached, IsRun, done_steps, world_of}
-use Rattle.mpd_core.specs.DebuggerViews.{DebuggerView, standing_of}
+use Rattle.mpd_trail.specs.DebuggerViews.{DebuggerView, standing_of}
 use Rattle.mpd_policy.specs.declared.ending.Ending.{Ending}
 use Rattle.mpd_session.specs.declared.request.Command.{Command}
 use Rattle.mpd_session.specs.declared.request.Command.TheVariants as command

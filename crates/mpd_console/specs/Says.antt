@@ -11,7 +11,7 @@ use Rattle.mpd_model.specs.runs.Trail.{Trail, world_of}
 use Rattle.mpd_model.specs.texts.Texts.{line}
 use Rattle.mpd_model.specs.texts.Words.{words}
 use Rattle.mpd_policy.specs.declared.ending.Ending.{Ending}
-use Rattle.mpd_explore.specs.declared.report.Witness.{Witness}
+use Rattle.mpd_explore.specs.declared.report.EndWitness.{EndWitness}
 use Rattle.mpd_explore.specs.Witness.{end_of}
 use Rattle.mpd_session.specs.declared.request.Command.{Command}
 use Rattle.mpd_session.specs.declared.request.Command.TheVariants as command
@@ -120,7 +120,7 @@ abbrev pub AlongSaid : Program → Mode → Look → List ℕ → List Step → 
 AlongSaid s mode p script steps text = (e : Ending) × LeadsTo (start s mode) steps e × (text ≡ laid_said p script (laid (opened s mode) steps) None e (length steps))
 
 -- of the steps of a witness, which lie ahead from there: the same, and the run ends in what the witness leads to
-abbrev pub WitnessSaid : Program → Mode → Look → List ℕ → Witness → List ℕ → Type 0
+abbrev pub WitnessSaid : Program → Mode → Look → List ℕ → EndWitness → List ℕ → Type 0
 WitnessSaid s mode p script x text =
     (e : Ending) × (end_of e ≡ Some x.end) × LeadsTo (start s mode) x.steps e × (text ≡ laid_said p script (laid (opened s mode) x.steps) None e (length x.steps))
 

@@ -14,13 +14,15 @@ use crate::desk::{MEMORY, Screen, add, carry_out};
 use crate::moves::goto_command;
 use crate::prompts::{marked_bytes, said_marked};
 use mpd_blame::{Blame, blame_run, push_blame};
-use mpd_core::{Core, Debugger};
+use mpd_core::Core;
+use mpd_explore::Witnesses;
 use mpd_lines::{ROOM, push_all, push_folded_at};
 use mpd_model::{Decision, STEPS_MAX, Step};
 use mpd_outcomes::StateLimits;
 use mpd_policy::decide;
 use mpd_runs::{FUEL, STATES_KEPT, STATES_VISITED};
 use mpd_session::Session;
+use mpd_trail::Debugger;
 use mpd_vocabulary::Word;
 use std::alloc::{AllocError, Global};
 
@@ -146,7 +148,7 @@ fn line_of(alloc: Global, whole: &mut Debugger<'_>) -> Result<BlameLine, AllocEr
         fuel: limit_of(whole.depth()),
         kept: STATES_KEPT,
         visited: STATES_VISITED,
-        witnesses: false,
+        witnesses: Witnesses::OfNone,
         until: None,
     };
     let blame = blame_run(alloc, whole, limits)?;

@@ -4,7 +4,8 @@ ghost use Rattle.std.specs.Prelude.{◌≡◌, ◌≤◌, ◌++◌, [], OnErr, O
 ghost use Rattle.std.specs.Io.KnownBytes.{Consumes};
 ghost use Rattle.mpd_console.specs.Quitting as spec;
 
-use mpd_lines::{DeviceFault, READ_MAX, Source};
+use mpd_lines::READ_MAX;
+use mpd_model::{DeviceFault, Source};
 use std::alloc::Global;
 use std::marker::Model;
 

@@ -8,7 +8,7 @@ ghost use Rattle.mpd_console.specs.Looks as spec;
 
 use crate::moves::push_break_line;
 use crate::onward::finish_rank;
-use mpd_core::{Core, Debugger};
+use mpd_core::Core;
 use mpd_explain::{
     push_calls, push_enabled, push_history, push_lost, push_queues, push_ranks, push_why,
     push_why_rank, push_why_ranks, push_words,
@@ -19,6 +19,7 @@ use mpd_picture::push_picture;
 use mpd_policy::Breaks;
 use mpd_runs::push_runs;
 use mpd_trace::show;
+use mpd_trail::Debugger;
 use mpd_vocabulary::{Word, push_help};
 use std::alloc::{AllocError, Global};
 

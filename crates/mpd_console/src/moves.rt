@@ -17,13 +17,14 @@ use crate::onward::{
 };
 use crate::standing::{Scene, standing_of};
 use mpd_code::Code;
-use mpd_core::{Core, Debugger};
+use mpd_core::Core;
 use mpd_explain::{push_standing, push_step};
 use mpd_model::{Break, Cause, Decision, Decl, STEPS_MAX, Step, Stop};
 use mpd_names::push_break;
 use mpd_policy::{Breaks, decide, only_step, run_on, sole};
 use mpd_runs::{Way, push_count};
 use mpd_session::{Answer, Command, Refusal, Reply};
+use mpd_trail::Debugger;
 use mpd_vocabulary::Word;
 use std::alloc::{AllocError, Global};
 

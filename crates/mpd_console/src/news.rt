@@ -6,10 +6,11 @@ ghost use Rattle.mpd_explain.specs.Lost.{lost_calls};
 ghost use Rattle.mpd_console.specs.News as spec;
 
 use crate::standing::Standing;
-use mpd_core::{Core, Debugger};
+use mpd_core::Core;
 use mpd_explain::{lost_calls, push_lost_told};
 use mpd_model::{CallId, Decision};
 use mpd_names::push_spaced;
+use mpd_trail::Debugger;
 use mpd_vocabulary::Word;
 use std::alloc::{AllocError, Global};
 

@@ -6,11 +6,11 @@ ghost use Rattle.mpd_console.specs.Onward as spec;
 ghost use Rattle.mpd_console.specs.Moves as moves;
 
 use crate::moves::{Doing, begins, run_command};
-use mpd_core::Debugger;
 use mpd_model::{Break, Cause, STEPS_MAX, Step, Stop};
 use mpd_names::is_blocked;
 use mpd_policy::{Breaks, run_on};
 use mpd_session::Command;
+use mpd_trail::Debugger;
 use std::alloc::{AllocError, Global};
 
 /// The last line that a breakpoint may be on.

@@ -3,7 +3,7 @@
 ghost use Rattle.std.specs.Prelude.{◌≡◌, ◌≤◌, ℕ, IfOk, IsErrOf, None, [], length};
 ghost use Rattle.mpd_model.specs.steps.World.{start};
 ghost use Rattle.mpd_model.specs.runs.Trail.{IsRun};
-ghost use Rattle.mpd_explore.specs.Witness.{IsWitness};
+ghost use Rattle.mpd_explore.specs.Witness.{IsEndWitness};
 ghost use Rattle.mpd_session.specs.Held.{opened};
 ghost use Rattle.mpd_session.specs.Respond.{laid};
 ghost use Rattle.mpd_runs.specs.Given.{StopsAt};
@@ -14,11 +14,11 @@ use crate::desk::{ConsoleDesk, Screen};
 use crate::found::{RunAhead, laid_text};
 use crate::prompts::idle_bytes;
 use mpd_code::Subject;
-use mpd_core::Debugger;
-use mpd_explore::{Ending, Witness, WitnessFault, verify};
+use mpd_explore::{EndWitness, Ending, WitnessFault, verify_end};
 use mpd_model::{STEPS_MAX, Step, StepList};
 use mpd_runs::{StepsFault, take_steps};
 use mpd_session::Session;
+use mpd_trail::Debugger;
 use std::alloc::{AllocError, Global};
 
 /// Why no console is opened.
@@ -59,14 +59,14 @@ pub fn open<'c, 't>(
 }
 
 /// Checks a witness for a script, of which no more steps are taken than a debugger has room for.
-fn check_witness(alloc: Global, subject: Subject<'_>, witness: &Witness) -> Result<(), OpenFault>
-    ensures is { IfOk result (λ _. IsWitness subject.entry.code.now.program subject.entry.mode witness.now) }
+fn check_witness(alloc: Global, subject: Subject<'_>, witness: &EndWitness) -> Result<(), OpenFault>
+    ensures is { IfOk result (λ _. IsEndWitness subject.entry.code.now.program subject.entry.mode witness.now) }
     ensures fits { IfOk result (λ _. length witness.now.steps ≤ STEPS_MAX) }
 {
     if witness.steps.items.len() > STEPS_MAX {
         return Err(OpenFault::TooLong);
     }
-    match verify(alloc, subject.code, subject.mode, witness) {
+    match verify_end(alloc, subject.code, subject.mode, witness) {
         Ok(()) => Ok(()),
         Err(WitnessFault::Memory) => Err(OpenFault::Memory),
         Err(fault) => Err(OpenFault::Refused(fault)),
@@ -194,14 +194,14 @@ pub fn open_with<'c, 't>(
     alloc: Global,
     subject: Subject<'c>,
     screen: Screen<'t>,
-    witness: Witness,
+    witness: EndWitness,
 ) -> Result<Opened<'c, 't>, OpenFault>
-    ensures is { IfOk result (λ _. IsWitness subject.entry.code.now.program subject.entry.mode witness) }
+    ensures is { IfOk result (λ _. IsEndWitness subject.entry.code.now.program subject.entry.mode witness) }
     ensures desk { IfOk result (λ o. o.desk ≡ record { session = laid (opened subject.entry.code.now.program subject.entry.mode) witness.steps; script = screen.entry.script.now; last = None; asked = []; named = []; look = screen.entry.look }) }
     ensures said { IfOk result (λ o. WitnessSaid subject.entry.code.now.program subject.entry.mode screen.entry.look screen.entry.script.now witness o.said.items) }
 {
     check_witness(alloc, subject, &witness)?;
-    let Witness { steps, end } = witness;
+    let EndWitness { steps, end } = witness;
     drop(end);
     match open_along(alloc, subject, screen, steps) {
         Ok(opened) => Ok(opened),

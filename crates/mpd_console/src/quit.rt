@@ -6,8 +6,7 @@ ghost use Rattle.mpd_console.specs.Quitting as spec;
 
 use crate::held::Stock;
 use mpd_counter::Counter;
-use mpd_lines::{DeviceFault, Source};
-use mpd_model::LINE_MAX;
+use mpd_model::{DeviceFault, LINE_MAX, Source};
 use std::alloc::Global;
 
 /// What a line asks for that a desk can't do.

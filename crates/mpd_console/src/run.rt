@@ -7,8 +7,8 @@ ghost use Rattle.mpd_lines.specs.Telling.{waiting_below};
 ghost use Rattle.mpd_console.specs.Says.{ConsoleSays};
 
 use crate::desk::ConsoleDesk;
-use mpd_lines::{EngineFault, Sink, Source, run};
-use mpd_model::READS_MAX;
+use mpd_lines::{EngineFault, run};
+use mpd_model::{READS_MAX, Sink, Source};
 use std::alloc::Global;
 
 /// Answers the lines of a source by a console (docs/CONSOLE.md), however they were cut into reads;

@@ -5,10 +5,10 @@ ghost use Rattle.mpd_model.specs.runs.Decisions.{decision};
 ghost use Rattle.mpd_console.specs.News.{told, lost_after};
 
 use crate::news::Known;
-use mpd_core::Debugger;
 use mpd_explain::lost_calls;
 use mpd_model::{CallId, Decision};
 use mpd_policy::{Breaks, decide};
+use mpd_trail::Debugger;
 use std::alloc::{AllocError, Global};
 
 /// A session after a word, which is what is told of it.

@@ -7,6 +7,3 @@ pub mod TagLemmas
 pub mod EnabledLemmas
 pub mod ReleaseLemmas
 pub mod AnyLemmas
-pub mod TrailLemmas
-pub mod KeptLemmas
-pub mod RunLemmas

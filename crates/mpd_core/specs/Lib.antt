@@ -10,10 +10,3 @@ pub mod Looks
 pub mod Writes
 pub mod CoreStepped
 pub mod KindRows
-pub mod DebuggerFaults
-pub mod Kept
-pub mod Run
-pub mod DebuggerViews
-pub mod DebuggerWrites
-pub mod Moved
-pub mod DebuggerKindRows

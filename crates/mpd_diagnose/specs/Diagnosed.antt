@@ -2,7 +2,7 @@
 use Rattle.std.specs.Prelude.{◌≡◌, ℕ, Bool, true, false, List, [], ◌++◌, length, map, Option, Some, None, codes}
 use Rattle.mpd_model.specs.runs.Trail.{Standing}
 use Rattle.mpd_model.specs.steps.World.{World}
-use Rattle.mpd_explore.specs.declared.report.Leaf.{Leaf}
+use Rattle.mpd_explore.specs.declared.report.SearchLeaf.{SearchLeaf}
 use Rattle.mpd_explore.specs.Report.{shown}
 use Rattle.mpd_runs.specs.Drawn.{draws, sampled, seeded}
 use Rattle.mpd_outcomes.specs.declared.report.Count.{Count}
@@ -21,7 +21,7 @@ use Rattle.mpd_diagnose.specs.Told as told
 use Rattle.mpd_diagnose.specs.Told.{opening, drawn_opening, all_groups_text}
 
 -- what the ends of leaves are called, whose runs begin where a debugger stands
-abbrev pub headings_of : ℕ → Standing → List Leaf → List (List ℕ)
+abbrev pub headings_of : ℕ → Standing → List SearchLeaf → List (List ℕ)
 headings_of fuel d leaves = map (heading_of d.trail.program fuel d.world) leaves
 
 -- those of them that are told together, deadlocks and traps first
@@ -47,7 +47,7 @@ IsFirst script file ranks limits most d text c =
 -- ---- runs that are drawn
 
 -- each run that ends so is one
-abbrev pub one : Leaf → Count
+abbrev pub one : SearchLeaf → Count
 one l = Exactly 1
 
 -- So many runs are drawn, and each different one is told once: no other was drawn.

@@ -5,7 +5,7 @@ use Rattle.mpd_model.specs.declared.call.Mode.TheVariants.{Rendezvous, Buffered,
 use Rattle.mpd_model.specs.declared.outcome.Outcome.TheVariants.{Leftovers, Deadlock, Trap}
 use Rattle.mpd_policy.specs.declared.ending.Ending.{Ending}
 use Rattle.mpd_policy.specs.declared.ending.Ending.TheVariants.{Ended}
-use Rattle.mpd_explore.specs.declared.report.Leaf.{Leaf}
+use Rattle.mpd_explore.specs.declared.report.SearchLeaf.{SearchLeaf}
 use Rattle.mpd_lines.specs.Folding.{cut, folded}
 use Rattle.mpd_lines.specs.declared.verdict.Verdict.TheVariants.{Good, Bad, NotWhole}
 use Rattle.mpd_outcomes.specs.declared.report.Count.TheVariants.{Exactly, More}
@@ -44,7 +44,7 @@ row_groups = refl
 
 -- ends of a kind at the lines of another one, and at more, come after the others of their part: of deadlocks at 4 and 8, at 8 and at 4 the
 -- first; of what is left over from 8 and from 3 and 8 the second; not a deadlock at the lines of a trap
-abbrev ends_so : Ending → Leaf
+abbrev ends_so : Ending → SearchLeaf
 ends_so e = record { choices = []; ending = e }
 
 abbrev alone : ℕ → Group

@@ -4,7 +4,7 @@ use Rattle.std.specs.List.{filter, list_any, list_all, range_with_len}
 use Rattle.mpd_model.specs.declared.outcome.Outcome.TheVariants.{Leftovers, Deadlock, Trap}
 use Rattle.mpd_policy.specs.declared.ending.Ending.{Ending}
 use Rattle.mpd_policy.specs.declared.ending.Ending.TheVariants.{Ended, Cut}
-use Rattle.mpd_explore.specs.declared.report.Leaf.{Leaf}
+use Rattle.mpd_explore.specs.declared.report.SearchLeaf.{SearchLeaf}
 use Rattle.mpd_explore.specs.Report.{is_bad}
 use Rattle.mpd_outcomes.specs.declared.report.Count.{Count}
 use Rattle.mpd_outcomes.specs.declared.report.Count.TheVariants.{Exactly}
@@ -51,12 +51,12 @@ groups headings counts steps = map (group_of headings counts steps) (filter (is_
 
 -- ---- their order
 
-abbrev pub is_bad_leaf : Option Leaf → Bool
+abbrev pub is_bad_leaf : Option SearchLeaf → Bool
 is_bad_leaf None = false
 is_bad_leaf (Some l) = is_bad l.ending
 
 -- whether ends that are told together are deadlocks or traps
-abbrev pub is_bad_at : List Leaf → Group → Bool
+abbrev pub is_bad_at : List SearchLeaf → Group → Bool
 is_bad_at leaves g = is_bad_leaf (slice_get leaves g.first)
 
 -- the lines at which the end of a number stands
@@ -85,16 +85,16 @@ same_kind (Ended (Leftovers cs)) (Ended (Leftovers ds)) = true
 same_kind Cut Cut = true
 same_kind e f = false
 
-abbrev pub same_kind_of : Option Leaf → Option Leaf → Bool
+abbrev pub same_kind_of : Option SearchLeaf → Option SearchLeaf → Bool
 same_kind_of (Some l) (Some k) = same_kind l.ending k.ending
 same_kind_of l k = false
 
 -- whether ends stand at all lines of others of their kind, and at more
-abbrev pub exceeds : List Leaf → List (List ℕ) → Group → Group → Bool
+abbrev pub exceeds : List SearchLeaf → List (List ℕ) → Group → Group → Bool
 exceeds leaves lines g h = same_kind_of (slice_get leaves g.first) (slice_get leaves h.first) && is_less (lines_at lines h.first) (lines_at lines g.first)
 
 -- whether they do so of any of those that are told
-abbrev pub is_wide : List Leaf → List (List ℕ) → List Group → Group → Bool
+abbrev pub is_wide : List SearchLeaf → List (List ℕ) → List Group → Group → Bool
 is_wide leaves lines gs g = list_any (exceeds leaves lines g) gs
 
 -- whether something is so, or whether it isn't
@@ -103,9 +103,9 @@ is_so true b = b
 is_so false b = not b
 
 -- whether they are deadlocks or traps or neither, and whether they stand at all lines of others and at more or not
-abbrev pub is_of : Bool → Bool → List Leaf → List (List ℕ) → List Group → Group → Bool
+abbrev pub is_of : Bool → Bool → List SearchLeaf → List (List ℕ) → List Group → Group → Bool
 is_of bad wide leaves lines gs g = is_so bad (is_bad_at leaves g) && is_so wide (is_wide leaves lines gs g)
 
 -- deadlocks and traps, and then others; of each those that stand at all lines of others and at more come last
-abbrev pub bad_first : List Leaf → List (List ℕ) → List Group → List Group
+abbrev pub bad_first : List SearchLeaf → List (List ℕ) → List Group → List Group
 bad_first leaves lines gs = filter (is_of true false leaves lines gs) gs ++ filter (is_of true true leaves lines gs) gs ++ filter (is_of false false leaves lines gs) gs ++ filter (is_of false true leaves lines gs) gs

@@ -17,7 +17,7 @@ use Rattle.mpd_policy.specs.Wide.{wide_decision}
 use Rattle.mpd_policy.specs.Walk.{run_by, steps_by}
 use Rattle.mpd_policy.specs.declared.ending.Ending.{Ending}
 use Rattle.mpd_policy.specs.declared.ending.Ending.TheVariants.{Ended, Cut}
-use Rattle.mpd_explore.specs.declared.report.Leaf.{Leaf}
+use Rattle.mpd_explore.specs.declared.report.SearchLeaf.{SearchLeaf}
 
 -- ---- lines
 
@@ -87,13 +87,13 @@ heading_at s None e = []
 heading_at s (Some w) e = heading s w e
 
 -- the steps of the run of a leaf of the wide walk
-abbrev pub steps_to : ℕ → World → Leaf → ℕ
+abbrev pub steps_to : ℕ → World → SearchLeaf → ℕ
 steps_to fuel w l = length (steps_by (run_by wide_decision fuel l.choices w))
 
 -- the heading of its end
-abbrev pub heading_of : Program → ℕ → World → Leaf → List ℕ
+abbrev pub heading_of : Program → ℕ → World → SearchLeaf → List ℕ
 heading_of s fuel w l = heading_at s (fold w (steps_by (run_by wide_decision fuel l.choices w))) l.ending
 
 -- the lines at which it stands
-abbrev pub lines_of : Program → ℕ → World → Leaf → List ℕ
+abbrev pub lines_of : Program → ℕ → World → SearchLeaf → List ℕ
 lines_of s fuel w l = lines_at s (fold w (steps_by (run_by wide_decision fuel l.choices w))) l.ending

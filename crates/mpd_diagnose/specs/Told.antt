@@ -4,7 +4,7 @@ use Rattle.std.specs.Fmt.{decimal}
 use Rattle.mpd_model.specs.declared.call.Mode.{Mode}
 use Rattle.mpd_model.specs.texts.Modes.{mode_word}
 use Rattle.mpd_model.specs.texts.Texts.{line}
-use Rattle.mpd_explore.specs.declared.report.Leaf.{Leaf}
+use Rattle.mpd_explore.specs.declared.report.SearchLeaf.{SearchLeaf}
 use Rattle.mpd_outcomes.specs.declared.report.Count.{Count}
 use Rattle.mpd_outcomes.specs.declared.report.Count.TheVariants.{Exactly, More}
 use Rattle.mpd_runs.specs.declared.counts.WayCounts.{WayCounts}
@@ -141,7 +141,7 @@ verdict_text m c fuel states =
 
 -- ---- ends that are told together
 
-abbrev pub choices_of : Option Leaf → List ℕ
+abbrev pub choices_of : Option SearchLeaf → List ℕ
 choices_of None = []
 choices_of (Some l) = l.choices
 
@@ -164,7 +164,7 @@ group_text script file ranks mode said choices drawn steps picture = 10 ∷ fold
 
 -- Those of a report's leaves, which are called so, of so many runs, beside which there may be more. Their pictures are of a kind, and n stand
 -- before them.
-abbrev pub groups_text : List ℕ → List ℕ → Option ℕ → Mode → List ℕ → Bool → ℕ → Count → Bool → List (List ℕ) → List Leaf → List Group → List (List ℕ) → List ℕ
+abbrev pub groups_text : List ℕ → List ℕ → Option ℕ → Mode → List ℕ → Bool → ℕ → Count → Bool → List (List ℕ) → List SearchLeaf → List Group → List (List ℕ) → List ℕ
 groups_text script file ranks mode kind several n total more headings leaves [] ts = []
 groups_text script file ranks mode kind several n total more headings leaves (g ∷ gs) [] = []
 groups_text script file ranks mode kind several n total more headings leaves (g ∷ gs) (t ∷ ts) =
@@ -172,7 +172,7 @@ groups_text script file ranks mode kind several n total more headings leaves (g 
     ++ groups_text script file ranks mode kind several (n + 1) total more headings leaves gs ts
 
 -- all of them
-abbrev pub all_groups_text : List ℕ → List ℕ → Option ℕ → Mode → List ℕ → Count → Bool → List (List ℕ) → List Leaf → List Group → List (List ℕ) → List ℕ
+abbrev pub all_groups_text : List ℕ → List ℕ → Option ℕ → Mode → List ℕ → Count → Bool → List (List ℕ) → List SearchLeaf → List Group → List (List ℕ) → List ℕ
 all_groups_text script file ranks mode kind total more headings leaves gs ts = groups_text script file ranks mode kind (nat_lt 1 (length gs)) 0 total more headings leaves gs ts
 
 -- the command that tries other runs, where there are more

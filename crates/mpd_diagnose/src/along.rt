@@ -3,7 +3,7 @@
 ghost use Rattle.std.specs.Prelude.{◌≡◌, ◌+◌, ◌≤◌, ◌++◌, ◌∷◌, [], IfOk, OnOk, IsSome, Some, length, map, string_bytes};
 ghost use Rattle.std.specs.List.{AllByRecursion};
 ghost use Rattle.mpd_model.specs.runs.Trail.{done_steps};
-ghost use Rattle.mpd_core.specs.DebuggerViews.{AsFound, standing_of};
+ghost use Rattle.mpd_trail.specs.DebuggerViews.{AsFound, standing_of};
 ghost use Rattle.mpd_policy.specs.Wide.{wide_decision};
 ghost use Rattle.mpd_model.specs.steps.Next.{fold};
 ghost use Rattle.mpd_policy.specs.Walk.{run_by, steps_by};
@@ -12,10 +12,10 @@ ghost use Rattle.mpd_explore.specs.Witness.{HasWitness};
 ghost use Rattle.mpd_diagnose.specs.Headings as spec;
 
 use crate::heading::{LineList, heading_of, lines_of};
-use mpd_core::Debugger;
-use mpd_explore::Leaf;
+use mpd_explore::SearchLeaf;
 use mpd_model::STEPS_MAX;
 use mpd_policy::{Wide, follow, put_back};
+use mpd_trail::Debugger;
 use std::alloc::{AllocError, Global};
 
 /// How a run ends: what its end is called, at which lines it stands, and how many steps the run has.
@@ -59,7 +59,7 @@ fn end_there(
     alloc: Global,
     debugger: &mut Debugger<'_>,
     fuel: usize,
-    leaf: &Leaf,
+    leaf: &SearchLeaf,
 ) -> Result<End, AllocError>
     requires fits { debugger.old.trail.depth + fuel ≤ STEPS_MAX }
     requires listed { IsSome (run_by wide_decision fuel leaf.now.choices debugger.old.world) }
@@ -83,7 +83,7 @@ fn end_of(
     alloc: Global,
     debugger: &mut Debugger<'_>,
     fuel: usize,
-    leaf: &Leaf,
+    leaf: &SearchLeaf,
 ) -> Result<End, AllocError>
     requires clean { length debugger.old.trail.steps ≡ debugger.old.trail.depth }
     requires fits { debugger.old.trail.depth + fuel ≤ STEPS_MAX }
@@ -123,7 +123,7 @@ pub(crate) fn ends_of(
     alloc: Global,
     debugger: &mut Debugger<'_>,
     fuel: usize,
-    leaves: &[Leaf],
+    leaves: &[SearchLeaf],
 ) -> Result<Ends, AllocError>
     requires clean { length debugger.old.trail.steps ≡ debugger.old.trail.depth }
     requires fits { debugger.old.trail.depth + fuel ≤ STEPS_MAX }

@@ -3,7 +3,7 @@
 ghost use Rattle.std.specs.Prelude.{◌≡◌, ◌≤◌, ◌++◌, ◌∷◌, [], true, IfOk, OnOk, length, map, slice_get, string_bytes};
 ghost use Rattle.std.specs.List.{AllByRecursion};
 ghost use Rattle.mpd_model.specs.runs.Trail.{done_steps};
-ghost use Rattle.mpd_core.specs.DebuggerViews.{AsFound, standing_of};
+ghost use Rattle.mpd_trail.specs.DebuggerViews.{AsFound, standing_of};
 ghost use Rattle.mpd_policy.specs.Wide.{wide_decision};
 ghost use Rattle.mpd_explore.specs.Witness.{HasWitness};
 ghost use Rattle.mpd_diagnose.specs.Details.{LineAt, IsDetailed, AreDetailed};
@@ -11,12 +11,12 @@ ghost use Rattle.mpd_diagnose.specs.Details.{LineAt, IsDetailed, AreDetailed};
 use crate::groups::Group;
 use crate::hint::push_hint;
 use mpd_blame::line_of_leaf;
-use mpd_core::Debugger;
 use mpd_explain::{Beside, explanation_at};
-use mpd_explore::{Leaf, Report};
+use mpd_explore::{SearchLeaf, SearchReport, Witnesses};
 use mpd_model::STEPS_MAX;
 use mpd_outcomes::StateLimits;
 use mpd_policy::Wide;
+use mpd_trail::Debugger;
 use std::alloc::{AllocError, Global};
 
 /// The line of the step that decided how the run of the leaf of a number ends, where there is such a leaf, and it is a deadlock or a trap.
@@ -25,7 +25,7 @@ fn line_at(
     alloc: Global,
     debugger: &mut Debugger<'_>,
     limits: StateLimits,
-    leaves: &[Leaf],
+    leaves: &[SearchLeaf],
     number: usize,
 ) -> Result<String, AllocError>
     requires clean { length debugger.old.trail.steps ≡ debugger.old.trail.depth }
@@ -47,7 +47,7 @@ fn details_at(
     alloc: Global,
     debugger: &mut Debugger<'_>,
     limits: StateLimits,
-    report: &Report,
+    report: &SearchReport,
     group: &Group,
 ) -> Result<String, AllocError>
     requires clean { length debugger.old.trail.steps ≡ debugger.old.trail.depth }
@@ -60,7 +60,7 @@ fn details_at(
     debugger.state_is_reached();
     let beside = Beside {
         fuel: limits.fuel,
-        witnesses: false,
+        witnesses: Witnesses::OfNone,
         explain: true,
     };
     let number = group.shown;
@@ -76,7 +76,7 @@ pub(crate) fn details_of(
     alloc: Global,
     debugger: &mut Debugger<'_>,
     limits: StateLimits,
-    report: &Report,
+    report: &SearchReport,
     groups: &[Group],
 ) -> Result<Vec<String>, AllocError>
     requires clean { length debugger.old.trail.steps ≡ debugger.old.trail.depth }

@@ -3,7 +3,7 @@
 ghost use Rattle.std.specs.Prelude.{◌≡◌, ◌≤◌, IfOk, length, map, string_bytes};
 ghost use Rattle.std.specs.List.{AllByRecursion};
 ghost use Rattle.mpd_model.specs.runs.Trail.{done_steps, first_standing};
-ghost use Rattle.mpd_core.specs.DebuggerViews.{AsFound, standing_of};
+ghost use Rattle.mpd_trail.specs.DebuggerViews.{AsFound, standing_of};
 ghost use Rattle.mpd_policy.specs.Wide.{wide_decision};
 ghost use Rattle.mpd_explore.specs.Witness.{HasWitness};
 ghost use Rattle.mpd_diagnose.specs.Details.{AreDetailed};
@@ -16,11 +16,11 @@ use crate::groups::{bad_first, groups_of};
 use crate::told::{ToldEnds, drawn_opening, draws, push_groups, push_opening};
 use crate::words::Named;
 use mpd_code::Subject;
-use mpd_core::Debugger;
-use mpd_explore::{Leaf, Limits, Unwatched};
+use mpd_explore::{SearchLeaf, SearchLimits, Unwatched, Witnesses};
 use mpd_model::{Mode, STEPS_MAX};
 use mpd_outcomes::{Count, Outcomes, StateLimits, explore_outcomes};
 use mpd_runs::{WayCounts, counts_told, sample};
+use mpd_trail::Debugger;
 use std::alloc::{AllocError, Global};
 
 /// How a script is diagnosed.
@@ -160,7 +160,7 @@ fn first_part(
 }
 
 /// That each of some runs is one.
-fn ones(alloc: Global, leaves: &[Leaf]) -> Result<Vec<Count>, AllocError>
+fn ones(alloc: Global, leaves: &[SearchLeaf]) -> Result<Vec<Count>, AllocError>
     ensures { IfOk result (λ counts. counts.items ≡ map spec.one leaves.now) }
 {
     let mut counts = Vec::new(alloc);
@@ -185,10 +185,10 @@ fn drawn_runs(
     ensures as_found { AsFound (standing_of debugger.old) (standing_of debugger.new) }
 {
     debugger.state_is_reached();
-    let limits = Limits {
+    let limits = SearchLimits {
         runs,
         fuel,
-        witnesses: false,
+        witnesses: Witnesses::OfNone,
         until_bad: false,
         ends: false,
     };

@@ -8,7 +8,7 @@ ghost use Rattle.mpd_diagnose.specs.Groups as spec;
 
 use crate::heading::LineList;
 use mpd_explain::{firsts, text_at};
-use mpd_explore::{Ending, Leaf};
+use mpd_explore::{Ending, SearchLeaf};
 use mpd_model::Outcome;
 use mpd_outcomes::Count;
 use std::alloc::{AllocError, Global};
@@ -154,7 +154,7 @@ pub(crate) fn groups_of(
 // ---- their order
 
 /// Whether ends that are told together are deadlocks or traps.
-fn is_bad_group(leaves: &[Leaf], group: Group) -> bool
+fn is_bad_group(leaves: &[SearchLeaf], group: Group) -> bool
     ensures { result ≡ spec.is_bad_at leaves.now group }
 {
     match leaves.get(group.first) {
@@ -218,7 +218,7 @@ fn same_kind(one: &Ending, other: &Ending) -> bool
 }
 
 /// Whether the runs of the leaves of two numbers do.
-fn same_kind_at(leaves: &[Leaf], one: usize, other: usize) -> bool
+fn same_kind_at(leaves: &[SearchLeaf], one: usize, other: usize) -> bool
     ensures { result ≡ spec.same_kind_of (slice_get leaves.now one) (slice_get leaves.now other) }
 {
     match (leaves.get(one), leaves.get(other)) {
@@ -228,7 +228,7 @@ fn same_kind_at(leaves: &[Leaf], one: usize, other: usize) -> bool
 }
 
 /// Whether ends that are told together stand at all lines of others of their kind, and at more.
-fn exceeds(leaves: &[Leaf], lines: &[LineList], group: Group, other: Group) -> bool
+fn exceeds(leaves: &[SearchLeaf], lines: &[LineList], group: Group, other: Group) -> bool
     ensures { result ≡ spec.exceeds leaves.now lines.now group other }
 {
     let few = lines_at(lines, other.first);
@@ -237,7 +237,7 @@ fn exceeds(leaves: &[Leaf], lines: &[LineList], group: Group, other: Group) -> b
 }
 
 /// Whether they do so of any of those that are told.
-fn is_wide(leaves: &[Leaf], lines: &[LineList], groups: &[Group], group: Group) -> bool
+fn is_wide(leaves: &[SearchLeaf], lines: &[LineList], groups: &[Group], group: Group) -> bool
     ensures { result ≡ spec.is_wide leaves.now lines.now groups.now group }
 {
     groups
@@ -254,7 +254,13 @@ struct Kind {
 }
 
 /// Whether a group is meant.
-fn is_of(kind: Kind, leaves: &[Leaf], lines: &[LineList], groups: &[Group], group: Group) -> bool
+fn is_of(
+    kind: Kind,
+    leaves: &[SearchLeaf],
+    lines: &[LineList],
+    groups: &[Group],
+    group: Group,
+) -> bool
     ensures { result ≡ spec.is_of kind.bad kind.wide leaves.now lines.now groups.now group }
 {
     is_bad_group(leaves, group) == kind.bad && is_wide(leaves, lines, groups, group) == kind.wide
@@ -263,7 +269,7 @@ fn is_of(kind: Kind, leaves: &[Leaf], lines: &[LineList], groups: &[Group], grou
 /// Adds those groups that are meant.
 fn push_those(
     chosen: &mut Vec<Group>,
-    leaves: &[Leaf],
+    leaves: &[SearchLeaf],
     lines: &[LineList],
     groups: &[Group],
     kind: Kind,
@@ -279,7 +285,7 @@ fn push_those(
 /// The groups, those that are deadlocks or traps before all others; of each those that stand at all lines of others and at more come last.
 pub(crate) fn bad_first(
     alloc: Global,
-    leaves: &[Leaf],
+    leaves: &[SearchLeaf],
     lines: &[LineList],
     groups: &[Group],
 ) -> Result<Vec<Group>, AllocError>

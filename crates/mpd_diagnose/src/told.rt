@@ -11,7 +11,7 @@ use crate::commands::{Picture, modes_command, picture_file, push_run, sample_com
 use crate::groups::Group;
 use crate::words::Named;
 use mpd_explain::text_at;
-use mpd_explore::Leaf;
+use mpd_explore::SearchLeaf;
 use mpd_lines::push_folded;
 use mpd_marks::push_marked;
 use mpd_model::Mode;
@@ -476,7 +476,7 @@ fn push_group(
 }
 
 /// The choices of the leaf of a number, none where there is no such leaf.
-fn choices_at(leaves: &[Leaf], number: usize) -> &[usize]
+fn choices_at(leaves: &[SearchLeaf], number: usize) -> &[usize]
     ensures { result.now ≡ spec.choices_of (slice_get leaves.now number) }
 {
     match leaves.get(number) {

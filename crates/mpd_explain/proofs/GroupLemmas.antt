@@ -5,7 +5,7 @@ use Rattle.std.proofs.lemmas.List.{take_more, map-append}
 use Rattle.std.proofs.lemmas.List.Folds.{list_any-append}
 use Rattle.std.proofs.lemmas.Option.{slice_get_within, slice_get_read, slice_get_past, get_or_from_slice_get}
 use Rattle.mpd_policy.specs.declared.ending.Ending.{Ending}
-use Rattle.mpd_explore.specs.declared.report.Leaf.{Leaf}
+use Rattle.mpd_explore.specs.declared.report.SearchLeaf.{SearchLeaf}
 use Rattle.mpd_explore.specs.Ends.{ending_eq, firsts, has_end, times, before}
 use Rattle.mpd_explore.specs.ReportText.{ending_text}
 use Rattle.mpd_explore.specs.Printed.{total_line}
@@ -16,16 +16,16 @@ use Rattle.mpd_explain.proofs.KindLemmas.{step_by, was_there}
 
 -- ---- the leaf of a number
 
-pub so_past : (leaves : List Leaf) (e : Ending) (n : ℕ) → length leaves ≤ n → ends_so leaves e n ≡ false
+pub so_past : (leaves : List SearchLeaf) (e : Ending) (n : ℕ) → length leaves ≤ n → ends_so leaves e n ≡ false
 so_past leaves e n past = ap (is_so e) (slice_get_past leaves n past)
 
-pub so_here : (leaves : List Leaf) (e : Ending) (n : ℕ) (l : Leaf) → n < length leaves → l ≡ get_or leaves n l → ends_so leaves e n ≡ ending_eq l.ending e
+pub so_here : (leaves : List SearchLeaf) (e : Ending) (n : ℕ) (l : SearchLeaf) → n < length leaves → l ≡ get_or leaves n l → ends_so leaves e n ≡ ending_eq l.ending e
 so_here leaves e n l within read = ap (is_so e) (slice_get_read leaves (length leaves) n l refl within read)
 
-pub line_past : (leaves : List Leaf) (e n : ℕ) → length leaves ≤ n → line_at leaves e n (slice_get leaves n) ≡ []
+pub line_past : (leaves : List SearchLeaf) (e n : ℕ) → length leaves ≤ n → line_at leaves e n (slice_get leaves n) ≡ []
 line_past leaves e n past = ap (line_at leaves e n) (slice_get_past leaves n past)
 
-pub line_here : (leaves : List Leaf) (e n : ℕ) (l : Leaf) → n < length leaves → l ≡ get_or leaves n l → line_at leaves e n (slice_get leaves n) ≡ end_line e (times leaves l) n (ending_text l.ending)
+pub line_here : (leaves : List SearchLeaf) (e n : ℕ) (l : SearchLeaf) → n < length leaves → l ≡ get_or leaves n l → line_at leaves e n (slice_get leaves n) ≡ end_line e (times leaves l) n (ending_text l.ending)
 line_here leaves e n l within read = ap (line_at leaves e n) (slice_get_read leaves (length leaves) n l refl within read)
 
 pub ruleset reading = (so_past, so_here, line_past, line_here)
@@ -33,12 +33,12 @@ pub ruleset reading = (so_past, so_here, line_past, line_here)
 -- ---- one leaf more
 
 -- what the leaves of the numbers found so far end as, is what all before end as
-abbrev pub Finds : List Leaf → List ℕ → ℕ → Type 0
+abbrev pub Finds : List SearchLeaf → List ℕ → ℕ → Type 0
 Finds leaves numbers n = (e : Ending) → list_any (ends_so leaves e) numbers ≡ has_end (take n leaves) e
 
-module _ (leaves : List Leaf) (n : ℕ) (l : Leaf) (at : slice_get leaves n ≡ Some l) where
+module _ (leaves : List SearchLeaf) (n : ℕ) (l : SearchLeaf) (at : slice_get leaves n ≡ Some l) where
   one_more : take (n + 1) leaves ≡ take n leaves ++ l ∷ []
-  one_more = take_more leaves n l (slice_get_within leaves n l at) ∙ ap (λ (m : Leaf). take n leaves ++ m ∷ []) (get_or_from_slice_get leaves n l l at)
+  one_more = take_more leaves n l (slice_get_within leaves n l at) ∙ ap (λ (m : SearchLeaf). take n leaves ++ m ∷ []) (get_or_from_slice_get leaves n l l at)
 
   pub finds_more : (b : Bool) (numbers now : List ℕ) → Finds leaves numbers n → b ≡ not (has_end (take n leaves) l.ending) → now ≡ numbers ++ cond b (n ∷ []) [] → Finds leaves now (n + 1)
   finds_more b numbers now finds test more = λ e.
@@ -49,12 +49,12 @@ module _ (leaves : List Leaf) (n : ℕ) (l : Leaf) (at : slice_get leaves n ≡ 
       ap (list_any f) more ∙ list_any-append f numbers (cond b (n ∷ []) [])
       ∙ ap (λ t. t || list_any f (cond b (n ∷ []) [])) (finds e)
       ∙ step_by f n b old (ending_eq l.ending e) (ap (is_so e) at) known
-      ∙ sym (list_any-append (λ (m : Leaf). ending_eq m.ending e) (take n leaves) (l ∷ [])) ∙ ap (λ ls. has_end ls e) (sym one_more)
+      ∙ sym (list_any-append (λ (m : SearchLeaf). ending_eq m.ending e) (take n leaves) (l ∷ [])) ∙ ap (λ ls. has_end ls e) (sym one_more)
 
   pub given_more : (b : Bool) (numbers now : List ℕ) → numbers ≡ map (before leaves) (firsts (take n leaves)) → b ≡ not (has_end (take n leaves) l.ending) → now ≡ numbers ++ cond b (n ∷ []) [] → now ≡ map (before leaves) (firsts (take (n + 1) leaves))
   given_more b numbers now given test more = more ∙ one (has_end (take n leaves) l.ending) refl ∙ ap (λ ls. map (before leaves) (firsts ls)) (sym one_more)
     where
-      front : List Leaf
+      front : List SearchLeaf
       front = take n leaves
 
       one : (c : Bool) → has_end front l.ending ≡ c → numbers ++ cond b (n ∷ []) [] ≡ map (before leaves) (firsts (front ++ l ∷ []))
@@ -68,18 +68,18 @@ module _ (leaves : List Leaf) (n : ℕ) (l : Leaf) (at : slice_get leaves n ≡ 
 
 -- ---- what stands after the lines of groups
 
-no_ends : {A : Type 0} (v : A → List ℕ) (leaves : List Leaf) (e : ℕ) (ns : List ℕ) (texts : List A) → (ns ≡ []) ⊎ (texts ≡ []) → ends_with leaves e ns (map v texts) ≡ []
+no_ends : {A : Type 0} (v : A → List ℕ) (leaves : List SearchLeaf) (e : ℕ) (ns : List ℕ) (texts : List A) → (ns ≡ []) ⊎ (texts ≡ []) → ends_with leaves e ns (map v texts) ≡ []
 no_ends v leaves e ns texts (inl none) = ap (λ (ms : List ℕ). ends_with leaves e ms (map v texts)) none
 no_ends v leaves e [] texts (inr none) = refl
 no_ends v leaves e (n ∷ ns) texts (inr none) = ap (λ ts. ends_with leaves e (n ∷ ns) (map v ts)) none
 
 -- where either list has come to its end, all lines were told
-pub all_ends : {A : Type 0} (v : A → List ℕ) (leaves : List Leaf) (e : ℕ) (ns : List ℕ) (texts : List A) (so_far all : List ℕ) → (ns ≡ []) ⊎ (texts ≡ []) → so_far ++ ends_with leaves e ns (map v texts) ≡ all → so_far ≡ all
+pub all_ends : {A : Type 0} (v : A → List ℕ) (leaves : List SearchLeaf) (e : ℕ) (ns : List ℕ) (texts : List A) (so_far all : List ℕ) → (ns ≡ []) ⊎ (texts ≡ []) → so_far ++ ends_with leaves e ns (map v texts) ≡ all → so_far ≡ all
 all_ends v leaves e ns texts so_far all none told = sym (append-nil so_far) ∙ ap (λ (z : List ℕ). so_far ++ z) (sym (no_ends v leaves e ns texts none)) ∙ told
 
 -- with what stands after the first leaf of each, it is the text of the groups
-module _ (witnesses texts : List (List ℕ)) (leaves : List Leaf) where
-  groups_are : (e : ℕ) (ls : List Leaf) → StandThere leaves ls → ends_with leaves e (map (before leaves) ls) (map (behind_leaf witnesses texts) (map (before leaves) ls)) ≡ group_lines witnesses texts leaves e ls
+module _ (witnesses texts : List (List ℕ)) (leaves : List SearchLeaf) where
+  groups_are : (e : ℕ) (ls : List SearchLeaf) → StandThere leaves ls → ends_with leaves e (map (before leaves) ls) (map (behind_leaf witnesses texts) (map (before leaves) ls)) ≡ group_lines witnesses texts leaves e ls
   groups_are e [] h = refl
   groups_are e (l ∷ ls) h =
       (λ j. (line_at leaves e (before leaves l) (h.0 j) ++ behind_leaf witnesses texts (before leaves l)) ++ ends_with leaves (suc e) (map (before leaves) ls) (map (behind_leaf witnesses texts) (map (before leaves) ls)))

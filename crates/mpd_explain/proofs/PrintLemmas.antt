@@ -6,7 +6,7 @@ use Rattle.std.specs.List.{filter, range_with_len}
 use Rattle.std.proofs.lemmas.Bool.Decides.{nat_tests}
 use Rattle.std.proofs.lemmas.List.{length-map}
 use Rattle.std.proofs.lemmas.Option.{slice_get-map, slice_get_read, slice_get_past}
-use Rattle.mpd_explore.specs.declared.report.Leaf.{Leaf}
+use Rattle.mpd_explore.specs.declared.report.SearchLeaf.{SearchLeaf}
 use Rattle.mpd_explore.specs.ReportText.{leaf_line}
 use Rattle.mpd_explore.specs.Printed.{numbered, numbered_at, lines_told, told_text, total_line}
 use Rattle.mpd_explain.specs.Told.{text_at, leaf_lines, explained_text}
@@ -48,17 +48,17 @@ module _ (t : ℕ → Bool) where
 
 -- ---- without explanations it is the text of a report
 
-plain_lines : (witnesses : List (List ℕ)) (n : ℕ) (leaves : List Leaf) → leaf_lines witnesses [] n leaves ≡ lines_told witnesses n leaves
+plain_lines : (witnesses : List (List ℕ)) (n : ℕ) (leaves : List SearchLeaf) → leaf_lines witnesses [] n leaves ≡ lines_told witnesses n leaves
 plain_lines witnesses n [] = refl
 plain_lines witnesses n (l ∷ leaves) =
     ap (λ ls. (leaf_line n l ++ ls) ++ leaf_lines witnesses [] (suc n) leaves) (append-nil (numbered_at n (slice_get witnesses n)))
     ∙ ap (λ ls. (leaf_line n l ++ numbered_at n (slice_get witnesses n)) ++ ls) (plain_lines witnesses (suc n) leaves)
 
-plain_body : (grouped : Bool) (witnesses texts : List (List ℕ)) (leaves : List Leaf) (more : Bool) → grouped ≡ false → texts ≡ [] → explained_text grouped witnesses texts leaves more ≡ told_text witnesses leaves more
+plain_body : (grouped : Bool) (witnesses texts : List (List ℕ)) (leaves : List SearchLeaf) (more : Bool) → grouped ≡ false → texts ≡ [] → explained_text grouped witnesses texts leaves more ≡ told_text witnesses leaves more
 plain_body true witnesses texts leaves more g none = cc
 plain_body false witnesses texts leaves more g none = ap (λ ls. ls ++ total_line leaves more) (ap (λ ts. leaf_lines witnesses ts 0 leaves) none ∙ plain_lines witnesses 0 leaves)
 
-pub plain_told : {A E : Type 0} (r : Result A E) (text_of : A → List ℕ) (grouped : Bool) (witnesses texts : List (List ℕ)) (leaves : List Leaf) (more : Bool) → grouped ≡ false → texts ≡ [] → IfOk r (λ t. text_of t ≡ explained_text grouped witnesses texts leaves more)
+pub plain_told : {A E : Type 0} (r : Result A E) (text_of : A → List ℕ) (grouped : Bool) (witnesses texts : List (List ℕ)) (leaves : List SearchLeaf) (more : Bool) → grouped ≡ false → texts ≡ [] → IfOk r (λ t. text_of t ≡ explained_text grouped witnesses texts leaves more)
     → IfOk r (λ t. text_of t ≡ told_text witnesses leaves more)
 plain_told (Ok t) text_of grouped witnesses texts leaves more g none is = is ∙ plain_body grouped witnesses texts leaves more g none
 plain_told (Err e) text_of grouped witnesses texts leaves more g none is = tt

@@ -17,7 +17,7 @@ use Rattle.mpd_model.specs.runs.Decisions.{decision}
 use Rattle.mpd_model.specs.texts.Texts.{line}
 use Rattle.mpd_policy.specs.declared.ending.Ending.{Ending}
 use Rattle.mpd_policy.specs.declared.ending.Ending.TheVariants.{Ended, Cut}
-use Rattle.mpd_explore.specs.declared.report.Leaf as leaf
+use Rattle.mpd_explore.specs.declared.report.SearchLeaf as leaf
 use Rattle.mpd_policy.specs.Walk.{Run, walk}
 use Rattle.mpd_explain.specs.Explained.{explanation}
 use Rattle.mpd_explain.specs.Waits.{round, cycle_line}
@@ -183,13 +183,13 @@ row_cycle = refl
 
 -- ---- reports
 
-abbrev a_leaf : ℕ → Ending → leaf.Leaf
+abbrev a_leaf : ℕ → Ending → leaf.SearchLeaf
 a_leaf choice e = record { choices = choice ∷ []; ending = e }
 
 abbrev stuck : Ending
 stuck = Ended (o.Deadlock (issued_by 3 (call_id 0 1) ∷ []))
 
-abbrev four : List leaf.Leaf
+abbrev four : List leaf.SearchLeaf
 four = a_leaf 0 (Ended o.Done) ∷ a_leaf 1 stuck ∷ a_leaf 2 (Ended o.Done) ∷ a_leaf 3 Cut ∷ []
 
 pub row_firsts : firsts (codes "done" ∷ codes "cut" ∷ codes "done" ∷ codes "deadlock 0.1" ∷ codes "cut" ∷ []) ≡ 0 ∷ 1 ∷ 3 ∷ []
@@ -217,7 +217,7 @@ unread_by s = Ended (o.Leftovers (issued_by s (call_id 0 1) ∷ []))
 abbrev stuck_at : ℕ → Ending
 stuck_at s = Ended (o.Deadlock (issued_by s (call_id 0 1) ∷ []))
 
-abbrev elsewhere : List leaf.Leaf
+abbrev elsewhere : List leaf.SearchLeaf
 elsewhere = a_leaf 0 stuck ∷ a_leaf 1 (stuck_at 4) ∷ a_leaf 2 (failing 1) ∷ a_leaf 3 (failing 2) ∷ a_leaf 4 (unread_by 1) ∷ a_leaf 5 (unread_by 2) ∷ a_leaf 6 (stuck_at 4) ∷ a_leaf 7 (failing 1) ∷ []
 
 pub row_elsewhere : explained_text true [] ([] ∷ line (codes "  told") ∷ []) elsewhere false

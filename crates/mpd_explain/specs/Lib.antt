@@ -17,3 +17,4 @@ pub mod Whys
 pub mod Past
 pub mod Lost
 pub mod LostRows
+pub mod Behind

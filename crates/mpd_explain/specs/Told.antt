@@ -4,7 +4,7 @@ use Rattle.std.specs.Fmt.{decimal}
 use Rattle.std.specs.List.{filter, list_any, range_with_len}
 use Rattle.std.specs.Str.{bytes_eq}
 use Rattle.mpd_model.specs.texts.Texts.{line}
-use Rattle.mpd_explore.specs.declared.report.Leaf.{Leaf}
+use Rattle.mpd_explore.specs.declared.report.SearchLeaf.{SearchLeaf}
 use Rattle.mpd_explore.specs.Ends.{times, before}
 use Rattle.mpd_explore.specs.Ends as ends
 use Rattle.mpd_explore.specs.ReportText.{leaf_line, ending_text}
@@ -20,7 +20,7 @@ abbrev pub behind_leaf : List (List ℕ) → List (List ℕ) → ℕ → List �
 behind_leaf witnesses texts n = numbered_at n (slice_get witnesses n) ++ text_at (slice_get texts n)
 
 -- the lines of leaves, of which the first is number n
-abbrev pub leaf_lines : List (List ℕ) → List (List ℕ) → ℕ → List Leaf → List ℕ
+abbrev pub leaf_lines : List (List ℕ) → List (List ℕ) → ℕ → List SearchLeaf → List ℕ
 leaf_lines witnesses texts n [] = []
 leaf_lines witnesses texts n (l ∷ ls) = leaf_line n l ++ behind_leaf witnesses texts n ++ leaf_lines witnesses texts (suc n) ls
 
@@ -45,20 +45,20 @@ abbrev pub end_line : ℕ → ℕ → ℕ → List ℕ → List ℕ
 end_line e count n text = line (codes "end " ++ decimal e ++ codes " leaves " ++ decimal count ++ codes " first " ++ decimal n ++ 32 ∷ text)
 
 -- the lines of an end, which has a number, by a leaf that ends so: how many leaves do, the number of the first of them, and what stands after that
-abbrev pub end_lines : List (List ℕ) → List (List ℕ) → List Leaf → ℕ → Leaf → List ℕ
+abbrev pub end_lines : List (List ℕ) → List (List ℕ) → List SearchLeaf → ℕ → SearchLeaf → List ℕ
 end_lines witnesses texts leaves e l = end_line e (times leaves l) (before leaves l) (ending_text l.ending) ++ behind_leaf witnesses texts (before leaves l)
 
 -- the lines of ends, of which the first is number e
-abbrev pub group_lines : List (List ℕ) → List (List ℕ) → List Leaf → ℕ → List Leaf → List ℕ
+abbrev pub group_lines : List (List ℕ) → List (List ℕ) → List SearchLeaf → ℕ → List SearchLeaf → List ℕ
 group_lines witnesses texts leaves e [] = []
 group_lines witnesses texts leaves e (l ∷ ls) = end_lines witnesses texts leaves e l ++ group_lines witnesses texts leaves (suc e) ls
 
 -- ---- the whole
 
 -- the lines of all leaves, or of the ends of those that end as none before them does
-abbrev pub body_text : Bool → List (List ℕ) → List (List ℕ) → List Leaf → List ℕ
+abbrev pub body_text : Bool → List (List ℕ) → List (List ℕ) → List SearchLeaf → List ℕ
 body_text false witnesses texts leaves = leaf_lines witnesses texts 0 leaves
 body_text true witnesses texts leaves = group_lines witnesses texts leaves 0 (ends.firsts leaves)
 
-abbrev pub explained_text : Bool → List (List ℕ) → List (List ℕ) → List Leaf → Bool → List ℕ
+abbrev pub explained_text : Bool → List (List ℕ) → List (List ℕ) → List SearchLeaf → Bool → List ℕ
 explained_text grouped witnesses texts leaves more = body_text grouped witnesses texts leaves ++ total_line leaves more

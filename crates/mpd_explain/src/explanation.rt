@@ -5,7 +5,7 @@ ghost use Rattle.std.specs.Prelude.{◌≡◌, ◌+◌, ◌≤◌, ◌<◌, ◌+
 ghost use Rattle.std.specs.List.{AllByRecursion};
 ghost use Rattle.mpd_model.specs.steps.Next.{fold};
 ghost use Rattle.mpd_model.specs.runs.Trail.{done_steps};
-ghost use Rattle.mpd_core.specs.DebuggerViews.{AsFound, standing_of};
+ghost use Rattle.mpd_trail.specs.DebuggerViews.{AsFound, standing_of};
 ghost use Rattle.mpd_policy.specs.Walk.{run_by, steps_by};
 ghost use Rattle.mpd_explore.specs.Witness.{HasWitness};
 ghost use Rattle.mpd_explain.specs.Explained.{tells_of, told_at};
@@ -14,10 +14,10 @@ ghost use Rattle.mpd_policy.specs.Walks.{Beyond};
 
 use crate::list::push_text;
 use crate::sentences::{tells_of, told};
-use mpd_core::Debugger;
-use mpd_explore::{Leaf, Report};
+use mpd_explore::{SearchLeaf, SearchReport};
 use mpd_model::STEPS_MAX;
 use mpd_policy::{Schedule, follow, put_back};
+use mpd_trail::Debugger;
 use std::alloc::{AllocError, Global};
 
 /// Goes along the run of a leaf, and tells how it has ended. On return the debugger may be at any
@@ -27,7 +27,7 @@ fn retell<S: Schedule>(
     schedule: &S,
     debugger: &mut Debugger<'_>,
     fuel: usize,
-    leaf: &Leaf,
+    leaf: &SearchLeaf,
 ) -> Result<String, AllocError>
     requires fits { debugger.old.trail.depth + fuel ≤ STEPS_MAX }
     requires listed { IsSome (run_by S.decides fuel leaf.now.choices debugger.old.world) }
@@ -47,7 +47,7 @@ pub fn explain<S: Schedule>(
     alloc: Global,
     schedule: &S,
     debugger: &mut Debugger<'_>,
-    leaf: &Leaf,
+    leaf: &SearchLeaf,
     fuel: usize,
 ) -> Result<String, AllocError>
     requires clean { length debugger.old.trail.steps ≡ debugger.old.trail.depth }
@@ -74,7 +74,7 @@ pub fn explain_all<S: Schedule>(
     alloc: Global,
     schedule: &S,
     debugger: &mut Debugger<'_>,
-    report: &Report,
+    report: &SearchReport,
     fuel: usize,
 ) -> Result<Vec<String>, AllocError>
     requires clean { length debugger.old.trail.steps ≡ debugger.old.trail.depth }

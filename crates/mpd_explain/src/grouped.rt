@@ -4,22 +4,23 @@
 ghost use Rattle.std.specs.Prelude.{◌≡◌, ◌+◌, ◌≤◌, ◌++◌, true, IfOk, IsSome, length, map, slice_get, string_bytes};
 ghost use Rattle.std.specs.List.{AllByRecursion};
 ghost use Rattle.mpd_model.specs.runs.Trail.{done_steps};
-ghost use Rattle.mpd_core.specs.DebuggerViews.{AsFound, standing_of};
+ghost use Rattle.mpd_trail.specs.DebuggerViews.{AsFound, standing_of};
 ghost use Rattle.mpd_policy.specs.Walk.{run_by};
 ghost use Rattle.mpd_policy.specs.Walks.{Beyond};
 ghost use Rattle.mpd_explore.specs.Witness.{HasWitness};
 ghost use Rattle.mpd_explore.specs.WitnessTexts.{witness_text, witness_texts};
 ghost use Rattle.mpd_explain.specs.Explanations.{explained_at};
-ghost use Rattle.mpd_explain.specs.Told.{behind_leaf, explained_text, text_at};
+ghost use Rattle.mpd_explain.specs.Behind.{behind_by};
+ghost use Rattle.mpd_explain.specs.Told.{explained_text, text_at};
 
 use crate::explanation::explain;
 use crate::groups::{first_numbers, print_groups};
 use crate::list::push_text;
 use crate::print::push_numbered;
-use mpd_core::Debugger;
-use mpd_explore::{Leaf, Report, witness_here};
+use mpd_explore::{SearchLeaf, SearchReport, Witnesses, witness_here};
 use mpd_model::STEPS_MAX;
 use mpd_policy::{Schedule, follow, put_back};
+use mpd_trail::Debugger;
 use std::alloc::{AllocError, Global};
 
 /// What stands after the line of a leaf, and how it is made.
@@ -27,28 +28,29 @@ use std::alloc::{AllocError, Global};
 pub struct Beside {
     /// The fuel of the exploration that listed the leaves.
     pub fuel: usize,
-    /// Whether a deadlock or a trap has its witness.
-    pub witnesses: bool,
+    /// Of which leaves the witnesses are wanted.
+    pub witnesses: Witnesses,
     /// Whether a deadlock and a trap are explained.
     pub explain: bool,
 }
 
-/// Goes along the run of a leaf, and makes the text of its witness, empty if it is neither a
-/// deadlock nor a trap. On return the debugger may be at any later state.
+/// Goes along the run of a leaf, and makes the text of its witness, empty if it isn't asked for, or
+/// is neither a deadlock nor a trap. On return the debugger may be at any later state.
 fn witness_there<S: Schedule>(
     alloc: Global,
     schedule: &S,
     debugger: &mut Debugger<'_>,
+    asked: Witnesses,
     fuel: usize,
-    leaf: &Leaf,
+    leaf: &SearchLeaf,
 ) -> Result<String, AllocError>
     requires fits { debugger.old.trail.depth + fuel ≤ STEPS_MAX }
     requires listed { IsSome (run_by S.decides fuel leaf.now.choices debugger.old.world) }
-    ensures text { IfOk result (λ t. string_bytes t ≡ witness_text S.decides (done_steps debugger.old.trail) fuel debugger.old.world leaf.now) }
+    ensures text { IfOk result (λ t. string_bytes t ≡ witness_text S.decides asked (done_steps debugger.old.trail) fuel debugger.old.world leaf.now) }
     ensures beyond { Beyond (standing_of debugger.old) (standing_of debugger.new) }
 {
     follow(alloc, schedule, debugger, fuel, &leaf.choices.items)?;
-    witness_here(alloc, debugger, &leaf.ending)
+    witness_here(alloc, debugger, asked, &leaf.ending)
 }
 
 /// The same, and the debugger is left as found.
@@ -56,18 +58,19 @@ fn witness_text_of<S: Schedule>(
     alloc: Global,
     schedule: &S,
     debugger: &mut Debugger<'_>,
+    asked: Witnesses,
     fuel: usize,
-    leaf: &Leaf,
+    leaf: &SearchLeaf,
 ) -> Result<String, AllocError>
     requires clean { length debugger.old.trail.steps ≡ debugger.old.trail.depth }
     requires fits { debugger.old.trail.depth + fuel ≤ STEPS_MAX }
     requires listed { IsSome (run_by S.decides fuel leaf.now.choices debugger.old.world) }
-    ensures text { IfOk result (λ t. string_bytes t ≡ witness_text S.decides (done_steps debugger.old.trail) fuel debugger.old.world leaf.now) }
+    ensures text { IfOk result (λ t. string_bytes t ≡ witness_text S.decides asked (done_steps debugger.old.trail) fuel debugger.old.world leaf.now) }
     ensures as_found { AsFound (standing_of debugger.old) (standing_of debugger.new) }
 {
     debugger.state_is_reached();
     let base = debugger.depth();
-    let text = witness_there(alloc, schedule, debugger, fuel, leaf);
+    let text = witness_there(alloc, schedule, debugger, asked, fuel, leaf);
     put_back(debugger, base);
     text
 }
@@ -79,7 +82,7 @@ fn witness_at<S: Schedule>(
     alloc: Global,
     schedule: &S,
     debugger: &mut Debugger<'_>,
-    report: &Report,
+    report: &SearchReport,
     number: usize,
     beside: Beside,
 ) -> Result<String, AllocError>
@@ -90,14 +93,15 @@ fn witness_at<S: Schedule>(
     ensures as_found { AsFound (standing_of debugger.old) (standing_of debugger.new) }
 {
     debugger.state_is_reached();
-    if !beside.witnesses {
+    let asked = beside.witnesses;
+    if !asked.are_asked() {
         return Ok(String::new(alloc));
     }
     if number >= report.leaves.len() {
         return Ok(String::new(alloc));
     }
     let leaf = &report.leaves[number];
-    witness_text_of(alloc, schedule, debugger, beside.fuel, leaf)
+    witness_text_of(alloc, schedule, debugger, asked, beside.fuel, leaf)
 }
 
 /// The explanation of the leaf of this number, if there is such a leaf, and that is asked for; else
@@ -108,7 +112,7 @@ pub fn explanation_at<S: Schedule>(
     alloc: Global,
     schedule: &S,
     debugger: &mut Debugger<'_>,
-    report: &Report,
+    report: &SearchReport,
     number: usize,
     beside: Beside,
 ) -> Result<String, AllocError>
@@ -131,19 +135,19 @@ pub fn explanation_at<S: Schedule>(
 
 /// What stands after the line of the leaf of this number: the line of its witness and its
 /// explanation, if these are asked for. The debugger is left as found.
-#[tactic(auto, using(crate::proofs::PrintLemmas::numbered_by))]
+#[tactic(auto, using(crate::proofs::PrintLemmas::numbered_by), unfolding(crate::specs::Behind::behind_by))]
 fn after_leaf<S: Schedule>(
     alloc: Global,
     schedule: &S,
     debugger: &mut Debugger<'_>,
-    report: &Report,
+    report: &SearchReport,
     number: usize,
     beside: Beside,
 ) -> Result<String, AllocError>
     requires clean { length debugger.old.trail.steps ≡ debugger.old.trail.depth }
     requires fits { debugger.old.trail.depth + beside.fuel ≤ STEPS_MAX }
     requires listed { AllByRecursion (HasWitness S.decides debugger.old.trail.program debugger.old.trail.mode (done_steps debugger.old.trail) beside.fuel debugger.old.world) report.now.leaves.items }
-    ensures text { IfOk result (λ t. string_bytes t ≡ behind_leaf (witness_texts S.decides beside.witnesses (done_steps debugger.old.trail) beside.fuel debugger.old.world report.now.leaves.items) (explained_at S.decides beside.explain beside.fuel (standing_of debugger.old) report.now.leaves.items) number) }
+    ensures text { IfOk result (λ t. string_bytes t ≡ behind_by S.decides beside.witnesses beside.explain beside.fuel (standing_of debugger.old) report.now.leaves.items number) }
     ensures as_found { AsFound (standing_of debugger.old) (standing_of debugger.new) }
 {
     let witness = witness_at(alloc, schedule, debugger, report, number, beside)?;
@@ -159,14 +163,14 @@ fn after_leaves<S: Schedule>(
     alloc: Global,
     schedule: &S,
     debugger: &mut Debugger<'_>,
-    report: &Report,
+    report: &SearchReport,
     numbers: &[usize],
     beside: Beside,
 ) -> Result<Vec<String>, AllocError>
     requires clean { length debugger.old.trail.steps ≡ debugger.old.trail.depth }
     requires fits { debugger.old.trail.depth + beside.fuel ≤ STEPS_MAX }
     requires listed { AllByRecursion (HasWitness S.decides debugger.old.trail.program debugger.old.trail.mode (done_steps debugger.old.trail) beside.fuel debugger.old.world) report.now.leaves.items }
-    ensures texts { IfOk result (λ texts. map string_bytes texts.items ≡ map (behind_leaf (witness_texts S.decides beside.witnesses (done_steps debugger.old.trail) beside.fuel debugger.old.world report.now.leaves.items) (explained_at S.decides beside.explain beside.fuel (standing_of debugger.old) report.now.leaves.items)) numbers.now) }
+    ensures texts { IfOk result (λ texts. map string_bytes texts.items ≡ map (behind_by S.decides beside.witnesses beside.explain beside.fuel (standing_of debugger.old) report.now.leaves.items) numbers.now) }
     ensures as_found { AsFound (standing_of debugger.old) (standing_of debugger.new) }
 {
     debugger.state_is_reached();
@@ -189,7 +193,7 @@ pub fn print_grouped<S: Schedule>(
     alloc: Global,
     schedule: &S,
     debugger: &mut Debugger<'_>,
-    report: &Report,
+    report: &SearchReport,
     beside: Beside,
 ) -> Result<String, AllocError>
     requires clean { length debugger.old.trail.steps ≡ debugger.old.trail.depth }

@@ -9,13 +9,13 @@ ghost use Rattle.mpd_explain.specs.Told.{end_line};
 ghost use Rattle.mpd_explain.specs.Grouped.{ends_so, line_at, end_with, ends_with};
 
 use crate::list::push_if;
-use mpd_explore::{Ending, Leaf, Report, push_total, same_ending};
+use mpd_explore::{Ending, SearchLeaf, SearchReport, push_total, same_ending};
 use mpd_model::print_outcome;
 use std::alloc::{AllocError, Global};
 
 /// Whether the leaf of this number ends so.
 #[tactic(auto, using(crate::proofs::GroupLemmas::reading))]
-fn ends_so(leaves: &[Leaf], ending: &Ending, number: usize) -> bool
+fn ends_so(leaves: &[SearchLeaf], ending: &Ending, number: usize) -> bool
     ensures { result ≡ ends_so leaves.now ending.now number }
 {
     if number >= leaves.len() {
@@ -25,7 +25,7 @@ fn ends_so(leaves: &[Leaf], ending: &Ending, number: usize) -> bool
 }
 
 /// Whether the leaf of one of these numbers ends so.
-fn has_end(leaves: &[Leaf], ending: &Ending, numbers: &[usize]) -> bool
+fn has_end(leaves: &[SearchLeaf], ending: &Ending, numbers: &[usize]) -> bool
     ensures { result ≡ list_any (ends_so leaves.now ending.now) numbers.now }
 {
     numbers
@@ -35,7 +35,7 @@ fn has_end(leaves: &[Leaf], ending: &Ending, numbers: &[usize]) -> bool
 
 /// The numbers of the leaves that end as no leaf before them does. Each leaf is compared with those
 /// that were found, and with no others. `Err` means that memory was refused.
-pub(crate) fn first_numbers(alloc: Global, leaves: &[Leaf]) -> Result<Vec<usize>, AllocError>
+pub(crate) fn first_numbers(alloc: Global, leaves: &[SearchLeaf]) -> Result<Vec<usize>, AllocError>
     ensures { IfOk result (λ numbers. numbers.items ≡ map (before leaves.now) (firsts leaves.now)) }
 {
     let mut numbers = Vec::new(alloc);
@@ -47,7 +47,7 @@ pub(crate) fn first_numbers(alloc: Global, leaves: &[Leaf]) -> Result<Vec<usize>
 }
 
 /// How many of some leaves end as this one does.
-fn times(leaves: &[Leaf], leaf: &Leaf) -> usize
+fn times(leaves: &[SearchLeaf], leaf: &SearchLeaf) -> usize
     ensures { result ≡ times leaves.now leaf.now }
 {
     let mut count = 0;
@@ -77,10 +77,10 @@ fn end_of(alloc: Global, ending: &Ending) -> Result<String, AllocError>
 fn push_line(
     alloc: Global,
     out: &mut String,
-    leaves: &[Leaf],
+    leaves: &[SearchLeaf],
     place: usize,
     number: usize,
-    leaf: &Leaf,
+    leaf: &SearchLeaf,
 ) -> Result<(), AllocError>
     ensures { OnOk result (string_bytes out.new ≡ string_bytes out.old ++ end_line place (times leaves.now leaf.now) number (ending_text leaf.now.ending)) }
 {
@@ -94,7 +94,7 @@ fn push_line(
 fn push_line_at(
     alloc: Global,
     out: &mut String,
-    leaves: &[Leaf],
+    leaves: &[SearchLeaf],
     place: usize,
     number: usize,
 ) -> Result<(), AllocError>
@@ -110,7 +110,7 @@ fn push_line_at(
 fn push_end(
     alloc: Global,
     out: &mut String,
-    leaves: &[Leaf],
+    leaves: &[SearchLeaf],
     place: usize,
     number: usize,
     after: &str,
@@ -125,7 +125,7 @@ fn push_end(
 fn push_ends(
     alloc: Global,
     out: &mut String,
-    leaves: &[Leaf],
+    leaves: &[SearchLeaf],
     numbers: &[usize],
     texts: &[String],
 ) -> Result<(), AllocError>
@@ -143,7 +143,7 @@ fn push_ends(
 /// stands after the line of each. `Err` means that memory was refused.
 pub(crate) fn print_groups(
     alloc: Global,
-    report: &Report,
+    report: &SearchReport,
     numbers: &[usize],
     texts: &[String],
 ) -> Result<String, AllocError>

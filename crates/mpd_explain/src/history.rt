@@ -7,8 +7,9 @@ ghost use Rattle.mpd_model.specs.runs.Trail.{done_steps, redone};
 ghost use Rattle.mpd_explain.specs.Past as past;
 
 use crate::steps::push_step;
-use mpd_core::{Core, Debugger};
+use mpd_core::Core;
 use mpd_model::Step;
+use mpd_trail::Debugger;
 use std::alloc::{AllocError, Global};
 
 /// Adds a step in words, on the state before it, with its number, after `place` others.

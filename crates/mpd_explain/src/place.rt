@@ -9,11 +9,12 @@ use crate::candidates::push_candidate;
 use crate::lost::push_all_lost;
 use crate::sentences::push_told;
 use crate::steps::{push_issued, push_step};
-use mpd_core::{Core, Debugger};
+use mpd_core::Core;
 use mpd_explore::Ending;
 use mpd_model::{CallId, Decision, Outcome, Step};
 use mpd_names::{issue_line, push_end, push_source, rank_line};
 use mpd_policy::sole;
+use mpd_trail::Debugger;
 use std::alloc::{AllocError, Global};
 
 /// Adds two lines of the script, the second if it is another.

@@ -8,11 +8,16 @@ ghost use Rattle.mpd_explore.specs.Printed.{numbered, numbered_at, told_text};
 ghost use Rattle.mpd_explain.specs.Told as told;
 
 use crate::list::push_if;
-use mpd_explore::{Leaf, Report, push_leaf_text, push_total};
+use mpd_explore::{SearchLeaf, SearchReport, push_leaf_text, push_total};
 use std::alloc::{AllocError, Global};
 
 /// Adds the line of a leaf.
-fn push_leaf(alloc: Global, out: &mut String, number: usize, leaf: &Leaf) -> Result<(), AllocError>
+fn push_leaf(
+    alloc: Global,
+    out: &mut String,
+    number: usize,
+    leaf: &SearchLeaf,
+) -> Result<(), AllocError>
     ensures { OnOk result (string_bytes out.new ≡ string_bytes out.old ++ leaf_line number leaf.now) }
 {
     write!(out, "leaf {number} ")?;
@@ -68,7 +73,7 @@ pub fn push_behind(
 fn push_leaves(
     alloc: Global,
     out: &mut String,
-    leaves: &[Leaf],
+    leaves: &[SearchLeaf],
     witnesses: &[String],
     texts: &[String],
 ) -> Result<(), AllocError>
@@ -114,7 +119,7 @@ pub fn firsts(alloc: Global, ends: &[String]) -> Result<Vec<usize>, AllocError>
 }
 
 /// The text of a report with these explanations.
-fn explained(alloc: Global, report: &Report, texts: &[String]) -> Result<String, AllocError>
+fn explained(alloc: Global, report: &SearchReport, texts: &[String]) -> Result<String, AllocError>
     ensures { IfOk result (λ t. string_bytes t ≡ told.explained_text false (map string_bytes report.now.witnesses.items) (map string_bytes texts.now) report.now.leaves.items report.now.more) }
 {
     let mut out = String::new(alloc);
@@ -128,7 +133,7 @@ fn explained(alloc: Global, report: &Report, texts: &[String]) -> Result<String,
 /// are, and whether there are others. `Err` means that memory was refused.
 pub fn print_explained(
     alloc: Global,
-    report: &Report,
+    report: &SearchReport,
     texts: &[String],
 ) -> Result<String, AllocError>
     ensures text { IfOk result (λ t. string_bytes t ≡ told.explained_text false (map string_bytes report.now.witnesses.items) (map string_bytes texts.now) report.now.leaves.items report.now.more) }

@@ -10,8 +10,8 @@ use Rattle.mpd_model.specs.declared.decision.Decision.TheVariants.{Forced, Choic
 use Rattle.mpd_model.specs.steps.World.{World}
 use Rattle.mpd_model.specs.steps.Next.{next}
 use Rattle.mpd_model.specs.runs.Trail.{Standing, IsReached, done_steps}
-use Rattle.mpd_policy.specs.declared.along.Stop.{Stop}
-use Rattle.mpd_policy.specs.declared.along.Stop.TheVariants.{Ended, Fuel, Untaken}
+use Rattle.mpd_policy.specs.declared.along.WalkEnd.{WalkEnd}
+use Rattle.mpd_policy.specs.declared.along.WalkEnd.TheVariants.{Ended, Fuel, Untaken}
 use Rattle.mpd_policy.specs.Choosers.{NoSuch}
 use Rattle.mpd_policy.specs.Walked.{Walked}
 use Rattle.mpd_policy.specs.Walked.Walked.{here as way_here, forced as way_forced, chosen as way_chosen}
@@ -296,10 +296,10 @@ module _ (rules : Bool → Rules) (on : Bool) {C : Type 0} (sleeps : C → Bool)
       subst (λ j. Noted c e j m w v (i ∷ bs) (a ∷ rest)) (sym more)
       (noted_chosen c d e n (length rest + m) m i w u v a candidates bs rest same is read taken step (noted_along d e (suc n) (length rest + m) m u v bs rest (taken.2 ∙ same) refl far_left x))
 
-  abbrev Following : ℕ → Standing → C → Stop → Standing → C → Type 0
+  abbrev Following : ℕ → Standing → C → WalkEnd → Standing → C → Type 0
   Following limit d c stop e f = Walks r.decides Takes Leaves Passes limit d c stop e f
 
-  walk_noted : (limit : ℕ) (d e : Standing) (c f : C) (stop : Stop) → sleeps c ≡ on → Reaches r.decides (limit - d.trail.depth) (left c) d.world → (h : Following limit d c stop e f)
+  walk_noted : (limit : ℕ) (d e : Standing) (c f : C) (stop : WalkEnd) → sleeps c ≡ on → Reaches r.decides (limit - d.trail.depth) (left c) d.world → (h : Following limit d c stop e f)
       → Noted c h.middle (limit - d.trail.depth) (limit - e.trail.depth) d.world e.world h.gone.choices h.gone.path
   walk_noted limit d e c f stop same reaches h =
       let deep = h.gone.depth in
@@ -307,12 +307,12 @@ module _ (rules : Bool → Rules) (on : Bool) {C : Type 0} (sleeps : C → Bool)
       noted_along c h.middle d.trail.depth (limit - d.trail.depth) (limit - e.trail.depth) d.world e.world h.gone.choices h.gone.path same (omega (arith, deep, most)) reaches h.gone.walked
 
   -- all choices are made where it stops
-  made : (limit : ℕ) (d e : Standing) (c f : C) (stop : Stop) → (h : Following limit d c stop e f) → Reaches r.decides (limit - e.trail.depth) (left h.middle) e.world → (left h.middle ≡ []) × (f ≡ h.middle)
+  made : (limit : ℕ) (d e : Standing) (c f : C) (stop : WalkEnd) → (h : Following limit d c stop e f) → Reaches r.decides (limit - e.trail.depth) (left h.middle) e.world → (left h.middle ≡ []) × (f ≡ h.middle)
   made limit d e c f (Ended o) h reaches = (leaf_left r.decides (limit - e.trail.depth) (left h.middle) e.world o h.stops.1 reaches, h.stops.0)
   made limit d e c f Fuel h reaches = let spent = h.stops.1 in (none_left r.decides (limit - e.trail.depth) (left h.middle) e.world (omega (arith, spent)) reaches, h.stops.0)
   made limit d e c f Untaken h reaches = let u = h.stops.0 in (untaken_left r.decides (limit - e.trail.depth) (left h.middle) e.world u.candidates u.choice u.left.0 reaches, u.left.1)
 
-  pub going_all : (limit : ℕ) (d e : Standing) (c f : C) (stop : Stop) → sleeps c ≡ on → d.trail.depth ≤ limit → Reaches r.decides (limit - d.trail.depth) (left c) d.world → Beyond d e → Following limit d c stop e f
+  pub going_all : (limit : ℕ) (d e : Standing) (c f : C) (stop : WalkEnd) → sleeps c ≡ on → d.trail.depth ≤ limit → Reaches r.decides (limit - d.trail.depth) (left c) d.world → Beyond d e → Following limit d c stop e f
       → Going r (limit - d.trail.depth) (left c) (there c) d [] (there f) e
   going_all limit d e c f stop same within reaches b h =
       let n = walk_noted limit d e c f stop same reaches h in

@@ -12,10 +12,13 @@ use Rattle.mpd_model.specs.runs.Trail.{step_eq}
 use Rattle.mpd_model.specs.runs.Decisions.{decision, CanFollow}
 use Rattle.mpd_policy.specs.Wide.{wide_decision, sleeps_on}
 use Rattle.mpd_policy.specs.Walk.{Run, stepped, chosen, prefixed, runs_of, branches, followed, walk, wide_walk, steps_by}
-use Rattle.mpd_explore.specs.declared.report.Leaf as leaf
-use Rattle.mpd_explore.specs.declared.report.Limits.{Limits}
+use Rattle.mpd_explore.specs.declared.report.SearchLeaf as leaf
+use Rattle.mpd_explore.specs.declared.report.SearchLimits.{SearchLimits}
 use Rattle.mpd_explore.specs.Report.{shown, listed}
 use Rattle.mpd_explore.specs.Gathered.{run_text, run_texts}
+use Rattle.mpd_explore.specs.declared.report.Witnesses.{Witnesses}
+use Rattle.mpd_explore.specs.declared.report.Witnesses.TheVariants.{OfNone, OfDeadlocks, OfAll}
+use Rattle.mpd_explore.specs.Asked.{asked_text}
 use Rattle.mpd_explore.specs.Sleeping.{same_match, nothing_wakes, put_to_sleep, branches_by, followed_by, awake_by, Rules, rules_by, walk_with, walk_by}
 use Rattle.mpd_explore.specs.Witness.{witness_by}
 use Rattle.mpd_explore.specs.WitnessTexts.{behind_number, witness_text, witness_texts}
@@ -104,19 +107,20 @@ module _ (decide : World → Decision) (same : Step → Step → Bool) (keeps : 
 
   -- ---- the text of a run is that of the run which its choices tell
 
-  one_text : (path : List Step) (n : ℕ) (w : World) (r : Run) → Holds decide n w r → run_text (prefixed [] path r) ≡ witness_text decide path n w (shown r)
-  one_text path n w r h = ap (λ o. behind_number (witness_by (path ++ steps_by o) r.ending)) (sym h.by)
+  one_text : (asked : Witnesses) (path : List Step) (n : ℕ) (w : World) (r : Run) → Holds decide n w r → run_text asked (prefixed [] path r) ≡ witness_text decide asked path n w (shown r)
+  one_text asked path n w r h = ap (λ o. asked_text asked r.ending (behind_number (witness_by (path ++ steps_by o) r.ending))) (sym h.by)
 
-  each_text : (path : List Step) (n k : ℕ) (w : World) (rs : List Run) → AllByRecursion (Holds decide n w) rs → map run_text (take k (map (prefixed [] path) rs)) ≡ map (witness_text decide path n w) (take k (map shown rs))
-  each_text path n zero w rs h = refl
-  each_text path n (suc k) w [] h = refl
-  each_text path n (suc k) w (r ∷ rs) h = λ i. one_text path n w r h.0 i ∷ each_text path n k w rs h.1 i
+  each_text : (asked : Witnesses) (path : List Step) (n k : ℕ) (w : World) (rs : List Run) → AllByRecursion (Holds decide n w) rs → map (run_text asked) (take k (map (prefixed [] path) rs)) ≡ map (witness_text decide asked path n w) (take k (map shown rs))
+  each_text asked path n zero w rs h = refl
+  each_text asked path n (suc k) w [] h = refl
+  each_text asked path n (suc k) w (r ∷ rs) h = λ i. one_text asked path n w r h.0 i ∷ each_text asked path n k w rs h.1 i
 
-  texts_by : (asleep : List Step) (asked : Bool) (path : List Step) (n k : ℕ) (w : World) → run_texts asked (take k (map (prefixed [] path) (runs n asleep w))) ≡ witness_texts decide asked path n w (take k (map shown (runs n asleep w)))
-  texts_by asleep false path n k w = refl
-  texts_by asleep true path n k w = each_text path n k w (runs n asleep w) (awake_holds decide same keeps sleeps n asleep w)
+  texts_by : (asleep : List Step) (asked : Witnesses) (path : List Step) (n k : ℕ) (w : World) → run_texts asked (take k (map (prefixed [] path) (runs n asleep w))) ≡ witness_texts decide asked path n w (take k (map shown (runs n asleep w)))
+  texts_by asleep OfNone path n k w = refl
+  texts_by asleep OfDeadlocks path n k w = each_text OfDeadlocks path n k w (runs n asleep w) (awake_holds decide same keeps sleeps n asleep w)
+  texts_by asleep OfAll path n k w = each_text OfAll path n k w (runs n asleep w) (awake_holds decide same keeps sleeps n asleep w)
 
-  pub awake_told : (asleep : List Step) (l : Limits) (path : List Step) (n : ℕ) (w : World) (all : List Run) (leaves : List leaf.Leaf) (texts : List (List ℕ)) → all ≡ map (prefixed [] path) (runs n asleep w) → leaves ≡ listed l (map shown (runs n asleep w)) → texts ≡ run_texts l.witnesses (take (length leaves) all)
+  pub awake_told : (asleep : List Step) (l : SearchLimits) (path : List Step) (n : ℕ) (w : World) (all : List Run) (leaves : List leaf.SearchLeaf) (texts : List (List ℕ)) → all ≡ map (prefixed [] path) (runs n asleep w) → leaves ≡ listed l (map shown (runs n asleep w)) → texts ≡ run_texts l.witnesses (take (length leaves) all)
       → texts ≡ witness_texts decide l.witnesses path n w leaves
   awake_told asleep l path n w all leaves texts all_are is told =
       told ∙ ap (λ rs. run_texts l.witnesses (take (length leaves) rs)) all_are ∙ texts_by asleep l.witnesses path n (length leaves) w

@@ -13,7 +13,7 @@ use Rattle.mpd_model.specs.declared.outcome.TrappedRank.{TrappedRank}
 use Rattle.mpd_model.specs.steps.World.{id_eq}
 use Rattle.mpd_policy.specs.declared.ending.Ending.{Ending}
 use Rattle.mpd_policy.specs.declared.ending.Ending.TheVariants.{Ended, Cut}
-use Rattle.mpd_explore.specs.declared.report.Leaf.{Leaf}
+use Rattle.mpd_explore.specs.declared.report.SearchLeaf.{SearchLeaf}
 use Rattle.mpd_explore.specs.Traps.{trap_eq}
 use Rattle.mpd_explore.specs.Ends.{trapped_eq, issued_eq, outcome_eq, ending_eq, same_end, firsts, has_end, before}
 use Rattle.mpd_explore.proofs.EndLemmas.{trap_same, trap_each, number_each}
@@ -120,7 +120,7 @@ all_at p (y ∷ ys) (suc k) x h e = all_at p ys k x (and_parts (p y) (list_all p
 
 -- ---- firsts
 
-firsts_within : (p : Leaf → Bool) (xs : List Leaf) → list_all p xs ≡ true → list_all p (firsts xs) ≡ true
+firsts_within : (p : SearchLeaf → Bool) (xs : List SearchLeaf) → list_all p xs ≡ true → list_all p (firsts xs) ≡ true
 firsts_within p [] h = refl
 firsts_within p (x ∷ xs) h = let parts = and_parts (p x) (list_all p xs) h in λ j. parts.0 j && all_filtered p (λ m. not (same_end x m)) (firsts xs) (firsts_within p xs parts.1) j
 
@@ -132,7 +132,7 @@ all_kept : {A : Type 0} (xs : List A) → filter (λ x. true) xs ≡ xs
 all_kept [] = refl
 all_kept (x ∷ xs) = ap (λ l. x ∷ l) (all_kept xs)
 
-pub firsts_joined : (xs ys : List Leaf) → firsts (xs ++ ys) ≡ firsts xs ++ filter (λ m. not (has_end xs m.ending)) (firsts ys)
+pub firsts_joined : (xs ys : List SearchLeaf) → firsts (xs ++ ys) ≡ firsts xs ++ filter (λ m. not (has_end xs m.ending)) (firsts ys)
 firsts_joined [] ys = sym (all_kept (firsts ys))
 firsts_joined (x ∷ xs) ys =
     ap (λ l. x ∷ l)
@@ -142,12 +142,12 @@ firsts_joined (x ∷ xs) ys =
     (filter_both (λ m. not (same_end x m)) (λ m. not (has_end xs m.ending)) (firsts ys) ∙ (λ j. filter (λ m. not_or (same_end x m) (has_end xs m.ending) j) (firsts ys))))
 
 -- what ends as leaves do that are known already adds nothing
-pub firsts_known : (xs ys : List Leaf) → list_all (λ m. has_end xs m.ending) ys ≡ true → firsts (xs ++ ys) ≡ firsts xs
+pub firsts_known : (xs ys : List SearchLeaf) → list_all (λ m. has_end xs m.ending) ys ≡ true → firsts (xs ++ ys) ≡ firsts xs
 firsts_known xs ys h =
     firsts_joined xs ys ∙ ap (λ l. firsts xs ++ l) (none_left (λ m. has_end xs m.ending) (firsts ys) (firsts_within (λ m. has_end xs m.ending) ys h)) ∙ append-nil (firsts xs)
 
 -- a leaf that ends as none before it does is a first
-pub firsts_new : (xs : List Leaf) (l : Leaf) → has_end xs l.ending ≡ false → firsts (xs ++ l ∷ []) ≡ firsts xs ++ l ∷ []
+pub firsts_new : (xs : List SearchLeaf) (l : SearchLeaf) → has_end xs l.ending ≡ false → firsts (xs ++ l ∷ []) ≡ firsts xs ++ l ∷ []
 firsts_new xs l h = firsts_joined xs (l ∷ []) ∙ ap (λ (b : Bool). firsts xs ++ cond (not b) (l ∷ []) []) h
 
 -- ---- whether they have an end
@@ -155,7 +155,7 @@ firsts_new xs l h = firsts_joined xs (l ∷ []) ∙ ap (λ (b : Bool). firsts xs
 or_false : (a b : Bool) → a ≡ false → (a || b) ≡ b
 or_false a b e = λ j. e j || b
 
-any_left : (x : Leaf) (e : Ending) (ls : List Leaf) → ending_eq x.ending e ≡ false → has_end (filter (λ m. not (same_end x m)) ls) e ≡ has_end ls e
+any_left : (x : SearchLeaf) (e : Ending) (ls : List SearchLeaf) → ending_eq x.ending e ≡ false → has_end (filter (λ m. not (same_end x m)) ls) e ≡ has_end ls e
 any_left x e [] ne = refl
 any_left x e (d ∷ ls) ne = one (same_end x d) refl (any_left x e ls ne)
   where
@@ -168,7 +168,7 @@ any_left x e (d ∷ ls) ne = one (same_end x d) refl (any_left x e ls ne)
     one true is more = more ∙ sym (or_false (ending_eq d.ending e) (has_end ls e) (apart (ending_eq d.ending e) refl is))
     one false is more = ap (λ (b : Bool). ending_eq d.ending e || b) more
 
-pub firsts_ends : (xs : List Leaf) (e : Ending) → has_end (firsts xs) e ≡ has_end xs e
+pub firsts_ends : (xs : List SearchLeaf) (e : Ending) → has_end (firsts xs) e ≡ has_end xs e
 firsts_ends [] e = refl
 firsts_ends (x ∷ xs) e = one (ending_eq x.ending e) refl (firsts_ends xs e)
   where
@@ -178,11 +178,11 @@ firsts_ends (x ∷ xs) e = one (ending_eq x.ending e) refl (firsts_ends xs e)
 
 -- ---- no two firsts end in the same way
 
-abbrev pub AllApart : List Leaf → Type 0
+abbrev pub AllApart : List SearchLeaf → Type 0
 AllApart [] = Unit {0}
 AllApart (l ∷ ls) = (list_all (λ m. not (same_end l m)) ls ≡ true) × AllApart ls
 
-apart_filtered : (q : Leaf → Bool) (ls : List Leaf) → AllApart ls → AllApart (filter q ls)
+apart_filtered : (q : SearchLeaf → Bool) (ls : List SearchLeaf) → AllApart ls → AllApart (filter q ls)
 apart_filtered q [] h = tt
 apart_filtered q (l ∷ ls) h = one (q l) (apart_filtered q ls h.1)
   where
@@ -190,22 +190,22 @@ apart_filtered q (l ∷ ls) h = one (q l) (apart_filtered q ls h.1)
     one true more = (all_filtered (λ m. not (same_end l m)) q ls h.0, more)
     one false more = more
 
-pub firsts_apart : (xs : List Leaf) → AllApart (firsts xs)
+pub firsts_apart : (xs : List SearchLeaf) → AllApart (firsts xs)
 firsts_apart [] = tt
 firsts_apart (x ∷ xs) = (all_passing (λ m. not (same_end x m)) (firsts xs), apart_filtered (λ m. not (same_end x m)) (firsts xs) (firsts_apart xs))
 
-same_back : (l m : Leaf) → same_end l m ≡ true → same_end m l ≡ true
+same_back : (l m : SearchLeaf) → same_end l m ≡ true → same_end m l ≡ true
 same_back l m h = ap (λ (z : Ending). ending_eq z l.ending) (sym (ending_same l.ending m.ending h)) ∙ ending_each l.ending
 
-pub one_place : (ls : List Leaf) → AllApart ls → (j k : ℕ) (l m : Leaf) → slice_get ls j ≡ Some l → slice_get ls k ≡ Some m → same_end l m ≡ true → j ≡ k
+pub one_place : (ls : List SearchLeaf) → AllApart ls → (j k : ℕ) (l m : SearchLeaf) → slice_get ls j ≡ Some l → slice_get ls k ≡ Some m → same_end l m ≡ true → j ≡ k
 one_place [] h j k l m e f is = absurd (cc)
 one_place (x ∷ xs) h zero zero l m e f is = refl
 one_place (x ∷ xs) h zero (suc k) l m e f is =
     let at : x ≡ l = cc in
-    both_false (same_end l m) is (not-true (same_end l m) (ap (λ (z : Leaf). not (same_end z m)) (sym at) ∙ all_at (λ z. not (same_end x z)) xs k m h.0 f))
+    both_false (same_end l m) is (not-true (same_end l m) (ap (λ (z : SearchLeaf). not (same_end z m)) (sym at) ∙ all_at (λ z. not (same_end x z)) xs k m h.0 f))
 one_place (x ∷ xs) h (suc j) zero l m e f is =
     let at : x ≡ m = cc in
-    both_false (same_end m l) (same_back l m is) (not-true (same_end m l) (ap (λ (z : Leaf). not (same_end z l)) (sym at) ∙ all_at (λ z. not (same_end x z)) xs j l h.0 e))
+    both_false (same_end m l) (same_back l m is) (not-true (same_end m l) (ap (λ (z : SearchLeaf). not (same_end z l)) (sym at) ∙ all_at (λ z. not (same_end x z)) xs j l h.0 e))
 one_place (x ∷ xs) h (suc j) (suc k) l m e f is = ap suc (one_place xs h.1 j k l m e f is)
 
 -- ---- where they stand
@@ -215,18 +215,18 @@ neither true b f = absurd (cc)
 neither false b f = (refl, f)
 
 -- one that ends as none before it does stands where the first does that ends so
-pub before_new : (ls : List Leaf) (n : ℕ) (l : Leaf) → slice_get ls n ≡ Some l → has_end (take n ls) l.ending ≡ false → before ls l ≡ n
+pub before_new : (ls : List SearchLeaf) (n : ℕ) (l : SearchLeaf) → slice_get ls n ≡ Some l → has_end (take n ls) l.ending ≡ false → before ls l ≡ n
 before_new [] n l at none = absurd (cc)
-before_new (m ∷ ls) zero l at none = let is : m ≡ l = cc in λ j. cond ((ap (λ (z : Leaf). same_end z l) is ∙ ending_each l.ending) j) 0 (suc (before ls l))
+before_new (m ∷ ls) zero l at none = let is : m ≡ l = cc in λ j. cond ((ap (λ (z : SearchLeaf). same_end z l) is ∙ ending_each l.ending) j) 0 (suc (before ls l))
 before_new (m ∷ ls) (suc n) l at none =
     let parts = neither (same_end m l) (has_end (take n ls) l.ending) none in
     (λ j. cond (parts.0 j) 0 (suc (before ls l))) ∙ ap suc (before_new ls n l at parts.1)
 
 -- each first stands there itself
-abbrev pub StandThere : List Leaf → List Leaf → Type 0
+abbrev pub StandThere : List SearchLeaf → List SearchLeaf → Type 0
 StandThere leaves ls = AllByRecursion (λ l. slice_get leaves (before leaves l) ≡ Some l) ls
 
-stand_below : (x : Leaf) (xs ls : List Leaf) → StandThere xs ls → StandThere (x ∷ xs) (filter (λ m. not (same_end x m)) ls)
+stand_below : (x : SearchLeaf) (xs ls : List SearchLeaf) → StandThere xs ls → StandThere (x ∷ xs) (filter (λ m. not (same_end x m)) ls)
 stand_below x xs [] h = tt
 stand_below x xs (l ∷ ls) h = one (same_end x l) refl (stand_below x xs ls h.1)
   where
@@ -234,6 +234,6 @@ stand_below x xs (l ∷ ls) h = one (same_end x l) refl (stand_below x xs ls h.1
     one true is more = more
     one false is more = ((λ j. slice_get (x ∷ xs) (cond (is j) 0 (suc (before xs l)))) ∙ h.0, more)
 
-pub firsts_stand : (leaves : List Leaf) → StandThere leaves (firsts leaves)
+pub firsts_stand : (leaves : List SearchLeaf) → StandThere leaves (firsts leaves)
 firsts_stand [] = tt
 firsts_stand (x ∷ xs) = ((λ j. slice_get (x ∷ xs) (cond (ending_each x.ending j) 0 (suc (before xs x)))), stand_below x xs (firsts xs) (firsts_stand xs))

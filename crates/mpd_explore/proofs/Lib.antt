@@ -19,3 +19,4 @@ pub mod BehindLemmas
 pub mod PieceLemmas
 pub mod SplitLemmas
 pub mod ReportLemmas
+pub mod DeadlockLemmas

@@ -10,7 +10,7 @@ use Rattle.mpd_model.specs.declared.decision.Decision.{Decision}
 use Rattle.mpd_model.specs.declared.decision.Decision.TheVariants.{Forced, Choice, Leaf}
 use Rattle.mpd_model.specs.steps.World.{World}
 use Rattle.mpd_model.specs.steps.Next.{next, fold}
-use Rattle.mpd_core.proofs.KeptLemmas.{fold-append}
+use Rattle.mpd_trail.proofs.KeptLemmas.{fold-append}
 use Rattle.mpd_policy.specs.Walk.{Run, stepped, chosen, prefixed, runs_of, stopped}
 use Rattle.mpd_explore.specs.Sleeping.{branches_by, followed_by, awake_by, put_off}
 use Rattle.mpd_explore.specs.declared.search.Open.{Open}

@@ -11,8 +11,9 @@ use Rattle.mpd_model.specs.declared.decision.Decision.TheVariants.{Forced, Choic
 use Rattle.mpd_model.specs.steps.World.{World}
 use Rattle.mpd_model.specs.steps.Next.{next}
 use Rattle.mpd_model.specs.runs.Decisions.{CanFollow}
-use Rattle.mpd_explore.specs.declared.report.Leaf as leaf
-use Rattle.mpd_explore.specs.declared.report.Limits.{Limits}
+use Rattle.mpd_explore.specs.declared.report.SearchLeaf as leaf
+use Rattle.mpd_explore.specs.declared.report.SearchLimits.{SearchLimits}
+use Rattle.mpd_explore.specs.declared.report.Witnesses.{Witnesses}
 use Rattle.mpd_policy.specs.Walk.{Run, stepped, chosen, runs_of}
 use Rattle.mpd_explore.specs.Sleeping.{put_off, put_to_sleep, awake_runs, branches_by, followed_by, Rules, rules_by, decides_by, walk_with, walk_of}
 use Rattle.mpd_explore.specs.Search.{AllEnabled}
@@ -169,10 +170,10 @@ module _ (r : Rules) where
   walks_joined (suc n) (suc k) = λ asleep w. walk_cut k n asleep w (r.decides w) refl (walks_joined n (suc k)) (walks_joined n k) ∙ sym (awake_is r.decides r.same r.keeps r.sleeps n asleep w (r.decides w) refl)
 
 -- of the walk that is asked for
-pub whole_at : (l : Limits) (w : World) → walk_at l [] w ≡ walk_of l w
+pub whole_at : (l : SearchLimits) (w : World) → walk_at l [] w ≡ walk_of l w
 whole_at l w = walk_whole (rules_by l.ends) l.fuel [] w ∙ walk_by_is l.ends l.fuel w
 
-pub pieces_join : (k : ℕ) (l : Limits) (w : World) → flat_map (λ cs. walk_at l cs w) (pieces (decides_by l.ends) k l.fuel w) ≡ walk_of l w
+pub pieces_join : (k : ℕ) (l : SearchLimits) (w : World) → flat_map (λ cs. walk_at l cs w) (pieces (decides_by l.ends) k l.fuel w) ≡ walk_of l w
 pieces_join k l w = walks_joined (rules_by l.ends) l.fuel k [] w ∙ walk_by_is l.ends l.fuel w
 
 -- ---- some run begins with the choices of each
@@ -344,40 +345,40 @@ pub if_same : (b x y u v : Bool) → x ≡ u → (b ≡ false → y ≡ v) → (
 if_same true x y u v e f = e
 if_same false x y u v e f = f refl
 
-whole_report : (l : Limits) (w : World) → split_report 0 l w ≡ listed l (map shown (walk_of l w))
+whole_report : (l : SearchLimits) (w : World) → split_report 0 l w ≡ listed l (map shown (walk_of l w))
 whole_report l w =
     ap (λ cs. ended_by l.until_bad (flat_map (λ x. part l x w) cs)) (pieces_none (decides_by l.ends) l.fuel w)
     ∙ ap (ended_by l.until_bad) (one_list (λ x. part l x w))
     ∙ ended_twice l.until_bad (take l.runs (map shown (walk_at l [] w)))
     ∙ ap (λ rs. listed l (map shown rs)) (whole_at l w)
 
-whole_more : (l : Limits) (w : World) → split_more 0 l w ≡ left_out l (map shown (walk_of l w))
+whole_more : (l : SearchLimits) (w : World) → split_more 0 l w ≡ left_out l (map shown (walk_of l w))
 whole_more l w =
     let long : length (walk_of l w) ≡ length (map shown (walk_of l w)) = sym (length-map (walk_of l w) shown) in
     let any : list_any (λ cs. nat_lt l.runs (length (walk_at l cs w))) (pieces (decides_by l.ends) 0 l.fuel w) ≡ nat_lt l.runs (length (map shown (walk_of l w))) =
     ap (list_any (λ cs. nat_lt l.runs (length (walk_at l cs w)))) (pieces_none (decides_by l.ends) l.fuel w) ∙ or_nothing (nat_lt l.runs (length (walk_at l [] w))) ∙ ap (λ rs. nat_lt l.runs (length rs)) (whole_at l w) ∙ ap (nat_lt l.runs) long in
     if_same l.until_bad _ _ _ _ (ap (λ ls. nat_lt (length ls) (length (walk_of l w))) (whole_report l w) ∙ ap (nat_lt (length (listed l (map shown (walk_of l w))))) long) (λ h. any)
 
-pub no_choice : (l : Limits) (w : World) → (split_report 0 l w ≡ listed l (map shown (walk_of l w))) × (split_more 0 l w ≡ left_out l (map shown (walk_of l w)))
+pub no_choice : (l : SearchLimits) (w : World) → (split_report 0 l w ≡ listed l (map shown (walk_of l w))) × (split_more 0 l w ≡ left_out l (map shown (walk_of l w)))
 no_choice l w = (whole_report l w, whole_more l w)
 
 -- ---- no piece has more
 
-map_joins : (f : Run → leaf.Leaf) (xs ys : List Run) → map f (xs ++ ys) ≡ map f xs ++ map f ys
+map_joins : (f : Run → leaf.SearchLeaf) (xs ys : List Run) → map f (xs ++ ys) ≡ map f xs ++ map f ys
 map_joins f [] ys = refl
 map_joins f (x ∷ xs) ys = ap (λ zs. f x ∷ zs) (map_joins f xs ys)
 
-joined_few : (l : Limits) (of : List ℕ → List Run) (xs : List (List ℕ)) → length (flat_map (λ cs. listed l (map shown (of cs))) xs) ≤ length (flat_map of xs)
+joined_few : (l : SearchLimits) (of : List ℕ → List Run) (xs : List (List ℕ)) → length (flat_map (λ cs. listed l (map shown (of cs))) xs) ≤ length (flat_map of xs)
 joined_few l of [] = omega arith
 joined_few l of (x ∷ xs) =
     omega (arith, length-append (listed l (map shown (of x))) (flat_map (λ cs. listed l (map shown (of cs))) xs), length-append (of x) (flat_map of xs), listed_few l (map shown (of x)), length-map (of x) shown, joined_few l of xs)
 
 -- where as many are listed of all pieces, all are
-joined_whole : (l : Limits) (of : List ℕ → List Run) (xs : List (List ℕ)) → length (flat_map of xs) ≤ length (flat_map (λ cs. listed l (map shown (of cs))) xs) → flat_map (λ cs. listed l (map shown (of cs))) xs ≡ map shown (flat_map of xs)
+joined_whole : (l : SearchLimits) (of : List ℕ → List Run) (xs : List (List ℕ)) → length (flat_map of xs) ≤ length (flat_map (λ cs. listed l (map shown (of cs))) xs) → flat_map (λ cs. listed l (map shown (of cs))) xs ≡ map shown (flat_map of xs)
 joined_whole l of [] h = refl
 joined_whole l of (x ∷ xs) h =
-    let own : List leaf.Leaf = listed l (map shown (of x)) in
-    let rest : List leaf.Leaf = flat_map (λ cs. listed l (map shown (of cs))) xs in
+    let own : List leaf.SearchLeaf = listed l (map shown (of x)) in
+    let rest : List leaf.SearchLeaf = flat_map (λ cs. listed l (map shown (of cs))) xs in
     let all : length (of x) + length (flat_map of xs) ≤ length own + length rest = omega (arith, h, length-append own rest, length-append (of x) (flat_map of xs)) in
     let long : length (map shown (of x)) ≡ length (of x) = length-map (of x) shown in
     let few : length own ≤ length (map shown (of x)) = listed_few l (map shown (of x)) in
@@ -399,22 +400,22 @@ each_taken runs of (x ∷ xs) h =
     ∙ ap (λ ls. map shown (of x) ++ ls) (each_taken runs of xs both.1)
     ∙ sym (map_joins shown (of x) (flat_map of xs))
 
-up_joined : (l : Limits) (of : List ℕ → List Run) (xs : List (List ℕ)) → nat_lt (length (up_to_bad (flat_map (λ cs. listed l (map shown (of cs))) xs))) (length (flat_map of xs)) ≡ false
+up_joined : (l : SearchLimits) (of : List ℕ → List Run) (xs : List (List ℕ)) → nat_lt (length (up_to_bad (flat_map (λ cs. listed l (map shown (of cs))) xs))) (length (flat_map of xs)) ≡ false
     → up_to_bad (flat_map (λ cs. listed l (map shown (of cs))) xs) ≡ map shown (flat_map of xs)
 up_joined l of xs h =
-    let all : List leaf.Leaf = flat_map (λ cs. listed l (map shown (of cs))) xs in
+    let all : List leaf.SearchLeaf = flat_map (λ cs. listed l (map shown (of cs))) xs in
     let many : length (flat_map of xs) ≤ length (up_to_bad all) = not_less (length (up_to_bad all)) (length (flat_map of xs)) h in
     let few : length (up_to_bad all) ≤ length all = up_few all in
     let same : all ≡ map shown (flat_map of xs) = joined_whole l of xs (omega (arith, many, few)) in
     up_whole all (omega (arith, many, joined_few l of xs)) ∙ same
 
-no_more_by : (b : Bool) (runs fuel : ℕ) (witnesses : Bool) (of : List ℕ → List Run) (xs : List (List ℕ))
+no_more_by : (b : Bool) (runs fuel : ℕ) (witnesses : Witnesses) (of : List ℕ → List Run) (xs : List (List ℕ))
     → (if b then nat_lt (length (ended_by b (flat_map (λ cs. ended_by b (take runs (map shown (of cs)))) xs))) (length (flat_map of xs)) else list_any (λ cs. nat_lt runs (length (of cs))) xs) ≡ false
     → ended_by b (flat_map (λ cs. ended_by b (take runs (map shown (of cs)))) xs) ≡ map shown (flat_map of xs)
 no_more_by true runs fuel witnesses of xs h = up_joined (record { runs = runs; fuel = fuel; witnesses = witnesses; until_bad = true; ends = false }) of xs h
 no_more_by false runs fuel witnesses of xs h = each_taken runs of xs h
 
-pub no_more : (k : ℕ) (l : Limits) (w : World) → split_more k l w ≡ false → split_report k l w ≡ map shown (walk_of l w)
+pub no_more : (k : ℕ) (l : SearchLimits) (w : World) → split_more k l w ≡ false → split_report k l w ≡ map shown (walk_of l w)
 no_more k l w h =
     let joined : length (walk_of l w) ≡ length (flat_map (λ cs. walk_at l cs w) (pieces (decides_by l.ends) k l.fuel w)) = sym (ap length (pieces_join k l w)) in
     let more : (if l.until_bad then nat_lt (length (split_report k l w)) (length (flat_map (λ cs. walk_at l cs w) (pieces (decides_by l.ends) k l.fuel w))) else list_any (λ cs. nat_lt l.runs (length (walk_at l cs w))) (pieces (decides_by l.ends) k l.fuel w)) ≡ false =

@@ -1,5 +1,5 @@
 -- The text of a report by its texts is the text of the report.
-use Rattle.std.proofs.Common.{◌≡◌, ℕ, zero, suc, ◌<◌, ◌≤◌, ◌==◌, Bool, true, false, List, [], ◌∷◌, ◌++◌, length, map, get_or, slice_get, Option, Some, None, Result, Ok, Err, IfOk, codes, refl, sym, ap, ◌∙◌, arith, append_assoc}
+use Rattle.std.proofs.Common.{◌≡◌, ℕ, zero, suc, ◌<◌, ◌≤◌, ◌==◌, Bool, true, false, if◌then◌else◌, List, [], ◌∷◌, ◌++◌, length, map, get_or, slice_get, Option, Some, None, Result, Ok, Err, IfOk, codes, refl, sym, ap, ◌∙◌, arith, append_assoc}
 use Rattle.std.specs.Option.{option_map}
 use Rattle.std.specs.Fmt.{decimal}
 use Rattle.std.proofs.lemmas.Bool.Decides.{nat_tests}
@@ -12,8 +12,11 @@ use Rattle.mpd_model.specs.texts.Texts.{line, steps_text}
 use Rattle.mpd_model.specs.declared.outcome.Outcome.TheVariants.{Done, Leftovers, Deadlock, Trap}
 use Rattle.mpd_policy.specs.declared.ending.Ending.{Ending}
 use Rattle.mpd_policy.specs.declared.ending.Ending.TheVariants.{Ended, Cut}
-use Rattle.mpd_explore.specs.declared.report.Leaf.{Leaf}
-use Rattle.mpd_explore.specs.declared.report.Witness.{Witness}
+use Rattle.mpd_explore.specs.declared.report.SearchLeaf.{SearchLeaf}
+use Rattle.mpd_explore.specs.declared.report.EndWitness.{EndWitness}
+use Rattle.mpd_explore.specs.declared.report.Witnesses.{Witnesses}
+use Rattle.mpd_explore.specs.declared.report.Witnesses.TheVariants.{OfNone, OfDeadlocks, OfAll}
+use Rattle.mpd_explore.specs.Asked.{asks, asked_text}
 use Rattle.mpd_policy.specs.Walk.{steps_by, run_by}
 use Rattle.mpd_explore.specs.Report.{is_bad}
 use Rattle.mpd_explore.specs.Witness.{witness_by}
@@ -23,9 +26,16 @@ use Rattle.mpd_explore.specs.Printed.{numbered, numbered_at, lines_told, told_te
 
 -- ---- one text
 
-numbered_is : (n : ℕ) (o : Option Witness) → numbered n (behind_number o) ≡ witness_lines n o
+numbered_is : (n : ℕ) (o : Option EndWitness) → numbered n (behind_number o) ≡ witness_lines n o
 numbered_is n None = refl
 numbered_is n (Some x) = sym (append_assoc (codes "witness " ++ decimal n) (58 ∷ steps_text x.steps) (10 ∷ []))
+
+numbered_if : (b : Bool) (n : ℕ) (o : Option EndWitness) → numbered n (if b then behind_number o else []) ≡ (if b then witness_lines n o else [])
+numbered_if false n o = refl
+numbered_if true n o = numbered_is n o
+
+numbered_asked : (asked : Witnesses) (e : Ending) (n : ℕ) (o : Option EndWitness) → numbered n (asked_text asked e (behind_number o)) ≡ asked_text asked e (witness_lines n o)
+numbered_asked asked e n o = numbered_if (asks asked e) n o
 
 pub numbered_none : (n : ℕ) (text : List ℕ) → (length text == 0) ≡ true → numbered n text ≡ []
 numbered_none n [] h = refl
@@ -67,28 +77,29 @@ at_seam (x ∷ front) behind text zero e = absurd (omega (arith, e))
 at_seam (x ∷ front) behind text (suc n) e = at_seam front behind text n (omega (arith, e))
 
 module _ (decide : World → Decision) where
-  plain : (before : List Step) (fuel : ℕ) (w : World) (n : ℕ) (leaves : List Leaf) → lines_told [] n leaves ≡ leaves_text decide false before fuel w n leaves
+  plain : (before : List Step) (fuel : ℕ) (w : World) (n : ℕ) (leaves : List SearchLeaf) → lines_told [] n leaves ≡ leaves_text decide OfNone before fuel w n leaves
   plain before fuel w n [] = refl
   plain before fuel w n (l ∷ leaves) = ap (λ ls. (leaf_line n l ++ []) ++ ls) (plain before fuel w (suc n) leaves)
 
-  with_texts : (before : List Step) (fuel : ℕ) (w : World) (n : ℕ) (front texts : List (List ℕ)) (leaves : List Leaf) → length front ≡ n → texts ≡ front ++ map (witness_text decide before fuel w) leaves → lines_told texts n leaves ≡ leaves_text decide true before fuel w n leaves
-  with_texts before fuel w n front texts [] long are = refl
-  with_texts before fuel w n front texts (l ∷ leaves) long are =
-      let own : List ℕ = witness_text decide before fuel w l in
-      let here : slice_get texts n ≡ Some own = ap (λ ts. slice_get ts n) are ∙ at_seam front (map (witness_text decide before fuel w) leaves) own n long in
-      let line_is : numbered_at n (slice_get texts n) ≡ witness_part decide before fuel w n l = ap (numbered_at n) here ∙ numbered_is n (witness_by (before ++ steps_by (run_by decide fuel l.choices w)) l.ending) in
+  with_texts : (asked : Witnesses) (before : List Step) (fuel : ℕ) (w : World) (n : ℕ) (front texts : List (List ℕ)) (leaves : List SearchLeaf) → length front ≡ n → texts ≡ front ++ map (witness_text decide asked before fuel w) leaves → lines_told texts n leaves ≡ leaves_text decide asked before fuel w n leaves
+  with_texts asked before fuel w n front texts [] long are = refl
+  with_texts asked before fuel w n front texts (l ∷ leaves) long are =
+      let own : List ℕ = witness_text decide asked before fuel w l in
+      let here : slice_get texts n ≡ Some own = ap (λ ts. slice_get ts n) are ∙ at_seam front (map (witness_text decide asked before fuel w) leaves) own n long in
+      let line_is : numbered_at n (slice_get texts n) ≡ asked_text asked l.ending (witness_part decide before fuel w n l) = ap (numbered_at n) here ∙ numbered_asked asked l.ending n (witness_by (before ++ steps_by (run_by decide fuel l.choices w)) l.ending) in
       ap (λ ls. (leaf_line n l ++ ls) ++ lines_told texts (suc n) leaves) line_is
-      ∙ ap (λ ls. (leaf_line n l ++ witness_part decide before fuel w n l) ++ ls)
-      (with_texts before fuel w (suc n) (front ++ own ∷ []) texts leaves (omega (arith, length-append front (own ∷ []), long)) (are ∙ sym (append_assoc front (own ∷ []) (map (witness_text decide before fuel w) leaves))))
+      ∙ ap (λ ls. (leaf_line n l ++ asked_text asked l.ending (witness_part decide before fuel w n l)) ++ ls)
+      (with_texts asked before fuel w (suc n) (front ++ own ∷ []) texts leaves (omega (arith, length-append front (own ∷ []), long)) (are ∙ sym (append_assoc front (own ∷ []) (map (witness_text decide asked before fuel w) leaves))))
 
-  lines_are : (asked : Bool) (before : List Step) (fuel : ℕ) (w : World) (texts : List (List ℕ)) (leaves : List Leaf) → texts ≡ witness_texts decide asked before fuel w leaves → lines_told texts 0 leaves ≡ leaves_text decide asked before fuel w 0 leaves
-  lines_are false before fuel w texts leaves are = ap (λ ts. lines_told ts 0 leaves) are ∙ plain before fuel w 0 leaves
-  lines_are true before fuel w texts leaves are = with_texts before fuel w 0 [] texts leaves refl are
+  lines_are : (asked : Witnesses) (before : List Step) (fuel : ℕ) (w : World) (texts : List (List ℕ)) (leaves : List SearchLeaf) → texts ≡ witness_texts decide asked before fuel w leaves → lines_told texts 0 leaves ≡ leaves_text decide asked before fuel w 0 leaves
+  lines_are OfNone before fuel w texts leaves are = ap (λ ts. lines_told ts 0 leaves) are ∙ plain before fuel w 0 leaves
+  lines_are OfDeadlocks before fuel w texts leaves are = with_texts OfDeadlocks before fuel w 0 [] texts leaves refl are
+  lines_are OfAll before fuel w texts leaves are = with_texts OfAll before fuel w 0 [] texts leaves refl are
 
-  told_is : (asked : Bool) (before : List Step) (fuel : ℕ) (w : World) (texts : List (List ℕ)) (leaves : List Leaf) (more : Bool) → texts ≡ witness_texts decide asked before fuel w leaves → told_text texts leaves more ≡ report_text decide asked before fuel w leaves more
+  told_is : (asked : Witnesses) (before : List Step) (fuel : ℕ) (w : World) (texts : List (List ℕ)) (leaves : List SearchLeaf) (more : Bool) → texts ≡ witness_texts decide asked before fuel w leaves → told_text texts leaves more ≡ report_text decide asked before fuel w leaves more
   told_is asked before fuel w texts leaves more are = ap (λ ls. ls ++ line (codes "leaves " ++ decimal (length leaves) ++ codes " more " ++ more_text more)) (lines_are asked before fuel w texts leaves are)
 
-  pub told_reports : {A E : Type 0} (r : Result A E) (text_of : A → List ℕ) (asked : Bool) (before : List Step) (fuel : ℕ) (w : World) (texts : List (List ℕ)) (leaves : List Leaf) (more : Bool) → IfOk r (λ t. text_of t ≡ told_text texts leaves more) → texts ≡ witness_texts decide asked before fuel w leaves
+  pub told_reports : {A E : Type 0} (r : Result A E) (text_of : A → List ℕ) (asked : Witnesses) (before : List Step) (fuel : ℕ) (w : World) (texts : List (List ℕ)) (leaves : List SearchLeaf) (more : Bool) → IfOk r (λ t. text_of t ≡ told_text texts leaves more) → texts ≡ witness_texts decide asked before fuel w leaves
       → IfOk r (λ t. text_of t ≡ report_text decide asked before fuel w leaves more)
   told_reports (Ok t) text_of asked before fuel w texts leaves more is are = is ∙ told_is asked before fuel w texts leaves more are
   told_reports (Err e) text_of asked before fuel w texts leaves more is are = tt

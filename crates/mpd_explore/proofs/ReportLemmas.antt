@@ -11,12 +11,14 @@ use Rattle.mpd_model.specs.declared.decision.Decision.TheVariants.{Forced, Choic
 use Rattle.mpd_model.specs.steps.World.{World}
 use Rattle.mpd_model.specs.steps.Next.{next}
 use Rattle.mpd_model.specs.runs.Decisions.{decision}
-use Rattle.mpd_explore.specs.declared.report.Leaf as leaf
-use Rattle.mpd_explore.specs.declared.report.Limits.{Limits}
+use Rattle.mpd_explore.specs.declared.report.SearchLeaf as leaf
+use Rattle.mpd_explore.specs.declared.report.SearchLimits.{SearchLimits}
 use Rattle.mpd_policy.specs.Walk.{Run, stepped, chosen, runs_of}
 use Rattle.mpd_explore.specs.Sleeping.{same_match, nothing_wakes, put_off, awake_runs, Rules, rules_by, decides_by, walk_of}
 use Rattle.mpd_explore.specs.Report.{shown, any_bad, up_to_bad, ended_by}
 use Rattle.mpd_explore.specs.WitnessTexts.{witness_texts}
+use Rattle.mpd_explore.specs.declared.report.Witnesses.{Witnesses}
+use Rattle.mpd_explore.specs.declared.report.Witnesses.TheVariants.{OfNone, OfDeadlocks, OfAll}
 use Rattle.mpd_explore.proofs.AsleepLemmas.{put_off_none}
 use Rattle.mpd_explore.proofs.AwakeLemmas.{awake_some}
 use Rattle.mpd_explore.proofs.WitnessLemmas.{AllFollow}
@@ -30,7 +32,7 @@ use Rattle.mpd_explore.proofs.SplitLemmas.{take_next, choices_are}
 
 -- ---- one piece more
 
-pub parts_next : (l : Limits) (w : World) (ps : List Piece) (i : ℕ) (p : Piece) (old new : List leaf.Leaf) → i < length ps → p ≡ get_or ps i p → old ≡ parts l w (take i ps) → new ≡ old ++ part l p.choices w → new ≡ parts l w (take (i + 1) ps)
+pub parts_next : (l : SearchLimits) (w : World) (ps : List Piece) (i : ℕ) (p : Piece) (old new : List leaf.SearchLeaf) → i < length ps → p ≡ get_or ps i p → old ≡ parts l w (take i ps) → new ≡ old ++ part l p.choices w → new ≡ parts l w (take (i + 1) ps)
 parts_next l w ps i p old new within read before added =
     added ∙ ap (λ ls. ls ++ part l p.choices w) before
     ∙ ap (λ ls. parts l w (take i ps) ++ ls) (sym (append-nil (part l p.choices w)))
@@ -41,24 +43,25 @@ or_nothing true b = refl
 or_nothing false true = refl
 or_nothing false false = refl
 
-pub more_next : (l : Limits) (w : World) (ps : List Piece) (i : ℕ) (p : Piece) (old new : Bool) → i < length ps → p ≡ get_or ps i p → old ≡ has_more l w (take i ps) → new ≡ (old || part_left l p.choices w) → new ≡ has_more l w (take (i + 1) ps)
+pub more_next : (l : SearchLimits) (w : World) (ps : List Piece) (i : ℕ) (p : Piece) (old new : Bool) → i < length ps → p ≡ get_or ps i p → old ≡ has_more l w (take i ps) → new ≡ (old || part_left l p.choices w) → new ≡ has_more l w (take (i + 1) ps)
 more_next l w ps i p old new within read before added =
     let test : Piece → Bool = λ q. part_left l q.choices w in
     added ∙ ap (λ b. b || part_left l p.choices w) before
     ∙ sym (ap (has_more l w) (take_next ps i p within read) ∙ list_any-append test (take i ps) (p ∷ []) ∙ or_nothing (has_more l w (take i ps)) (test p))
 
-pub texts_next : (decide : World → Decision) (asked : Bool) (path : List Step) (n : ℕ) (w : World) (old own new : List leaf.Leaf) (texts now : List (List ℕ)) → new ≡ old ++ own → texts ≡ witness_texts decide asked path n w old → now ≡ texts ++ witness_texts decide asked path n w own → now ≡ witness_texts decide asked path n w new
+pub texts_next : (decide : World → Decision) (asked : Witnesses) (path : List Step) (n : ℕ) (w : World) (old own new : List leaf.SearchLeaf) (texts now : List (List ℕ)) → new ≡ old ++ own → texts ≡ witness_texts decide asked path n w old → now ≡ texts ++ witness_texts decide asked path n w own → now ≡ witness_texts decide asked path n w new
 texts_next decide asked path n w old own new texts now added before told =
     told ∙ ap (λ ts. ts ++ witness_texts decide asked path n w own) before ∙ sym (ap (witness_texts decide asked path n w) added ∙ texts_join decide asked path n w old own)
 
-no_texts : (decide : World → Decision) (asked : Bool) (path : List Step) (n : ℕ) (w : World) → [] ≡ witness_texts decide asked path n w []
-no_texts decide false path n w = refl
-no_texts decide true path n w = refl
+no_texts : (decide : World → Decision) (asked : Witnesses) (path : List Step) (n : ℕ) (w : World) → [] ≡ witness_texts decide asked path n w []
+no_texts decide OfNone path n w = refl
+no_texts decide OfDeadlocks path n w = refl
+no_texts decide OfAll path n w = refl
 
-pub texts_begun : (decide : World → Decision) (asked : Bool) (path : List Step) (n : ℕ) (w : World) (old : List leaf.Leaf) (texts : List (List ℕ)) → old ≡ [] → texts ≡ [] → texts ≡ witness_texts decide asked path n w old
+pub texts_begun : (decide : World → Decision) (asked : Witnesses) (path : List Step) (n : ℕ) (w : World) (old : List leaf.SearchLeaf) (texts : List (List ℕ)) → old ≡ [] → texts ≡ [] → texts ≡ witness_texts decide asked path n w old
 texts_begun decide asked path n w old texts none empty = empty ∙ no_texts decide asked path n w ∙ ap (witness_texts decide asked path n w) (sym none)
 
-pub good_next : (u last : Bool) (old own new : List leaf.Leaf) → new ≡ old ++ own → last ≡ (u && any_bad own) → last ≡ false → (u ≡ true → any_bad old ≡ false) → u ≡ true → any_bad new ≡ false
+pub good_next : (u last : Bool) (old own new : List leaf.SearchLeaf) → new ≡ old ++ own → last ≡ (u && any_bad own) → last ≡ false → (u ≡ true → any_bad old ≡ false) → u ≡ true → any_bad new ≡ false
 good_next u last old own new added is off good until = ap any_bad added ∙ bad_behind old own (good until) ∙ not_both u (any_bad own) (sym is ∙ off) until
 
 -- ---- each piece has a run
@@ -98,17 +101,17 @@ some_by : (ends : Bool) (n : ℕ) (cs : List ℕ) (w : World) → AllFollow → 
 some_by true n cs w law off h = let no : ⊥ = cc in absurd no
 some_by false n cs w law off h = reached_some n cs w law h
 
-plain_some : (l : Limits) (cs : List ℕ) (w : World) → AllFollow → l.ends ≡ false → Reaches (decides_by l.ends) l.fuel cs w → 0 < length (walk_at l cs w)
+plain_some : (l : SearchLimits) (cs : List ℕ) (w : World) → AllFollow → l.ends ≡ false → Reaches (decides_by l.ends) l.fuel cs w → 0 < length (walk_at l cs w)
 plain_some l cs w law off h = some_by l.ends l.fuel cs w law off h
 
-abbrev AllSome : Limits → World → List Piece → Type 0
+abbrev AllSome : SearchLimits → World → List Piece → Type 0
 AllSome l w ps = AllByRecursion (λ (p : Piece). 0 < length (walk_at l p.choices w)) ps
 
-all_some : (l : Limits) (w : World) (ps : List Piece) → AllFollow → l.ends ≡ false → AllByRecursion (λ cs. Reaches (decides_by l.ends) l.fuel cs w) (choices_of ps) → AllSome l w ps
+all_some : (l : SearchLimits) (w : World) (ps : List Piece) → AllFollow → l.ends ≡ false → AllByRecursion (λ cs. Reaches (decides_by l.ends) l.fuel cs w) (choices_of ps) → AllSome l w ps
 all_some l w [] law off h = tt
 all_some l w (p ∷ ps) law off h = (plain_some l p.choices w law off h.0, all_some l w ps law off h.1)
 
-some_behind : (l : Limits) (w : World) (n : ℕ) (ps : List Piece) → AllSome l w ps → AllSome l w (drop n ps)
+some_behind : (l : SearchLimits) (w : World) (n : ℕ) (ps : List Piece) → AllSome l w ps → AllSome l w (drop n ps)
 some_behind l w zero ps h = h
 some_behind l w (suc n) [] h = tt
 some_behind l w (suc n) (p ∷ ps) h = some_behind l w n ps h.1
@@ -133,17 +136,17 @@ or_assoc : (a b c : Bool) → ((a || b) || c) ≡ (a || (b || c))
 or_assoc true b c = refl
 or_assoc false b c = refl
 
-few_joined : (l : Limits) (w : World) (front back : List Piece) → length (parts l w front) ≤ length (walks l w (front ++ back))
+few_joined : (l : SearchLimits) (w : World) (front back : List Piece) → length (parts l w front) ≤ length (walks l w (front ++ back))
 few_joined l w [] back = omega arith
 few_joined l w (p ∷ front) back =
     omega (arith, length-append (part l p.choices w) (parts l w front), length-append (walk_at l p.choices w) (walks l w (front ++ back)), listed_few l (map shown (walk_at l p.choices w)), length-map (walk_at l p.choices w) shown, few_joined l w front back)
 
-left_is : (l : Limits) (w : World) (cs : List ℕ) → l.until_bad ≡ true → part_left l cs w ≡ nat_lt (length (part l cs w)) (length (walk_at l cs w))
+left_is : (l : SearchLimits) (w : World) (cs : List ℕ) → l.until_bad ≡ true → part_left l cs w ≡ nat_lt (length (part l cs w)) (length (walk_at l cs w))
 left_is l w cs until =
     ap (λ b. if b then nat_lt (length (part l cs w)) (length (map shown (walk_at l cs w))) else nat_lt l.runs (length (map shown (walk_at l cs w)))) until
     ∙ ap (nat_lt (length (part l cs w))) (length-map (walk_at l cs w) shown)
 
-none_joined : (l : Limits) (w : World) (back : List Piece) → have_run l w back ≡ nat_lt 0 (length (walks l w back))
+none_joined : (l : SearchLimits) (w : World) (back : List Piece) → have_run l w back ≡ nat_lt 0 (length (walks l w back))
 none_joined l w [] = refl
 none_joined l w (p ∷ back) =
     let b : ℕ = length (walk_at l p.choices w) in
@@ -151,7 +154,7 @@ none_joined l w (p ∷ back) =
     ap (λ x. nat_lt 0 b || x) (none_joined l w back) ∙ sum_case (nat_lt 0 b) 0 b 0 d refl (omega arith) (omega arith) ∙ ap (nat_lt 0) (sym (length-append (walk_at l p.choices w) (walks l w back)))
 
 -- one of the pieces in front has more, or one after them has a run
-more_joined : (l : Limits) (w : World) (front back : List Piece) → l.until_bad ≡ true → (has_more l w front || have_run l w back) ≡ nat_lt (length (parts l w front)) (length (walks l w (front ++ back)))
+more_joined : (l : SearchLimits) (w : World) (front back : List Piece) → l.until_bad ≡ true → (has_more l w front || have_run l w back) ≡ nat_lt (length (parts l w front)) (length (walks l w (front ++ back)))
 more_joined l w [] back until = none_joined l w back
 more_joined l w (p ∷ front) back until =
     let a : ℕ = length (part l p.choices w) in
@@ -177,35 +180,35 @@ take_drop zero ps = refl
 take_drop (suc n) [] = refl
 take_drop (suc n) (p ∷ ps) = ap (λ qs. p ∷ qs) (take_drop n ps)
 
-some_run : (l : Limits) (w : World) (back : List Piece) → AllSome l w back → nat_lt 0 (length back) ≡ have_run l w back
+some_run : (l : SearchLimits) (w : World) (back : List Piece) → AllSome l w back → nat_lt 0 (length back) ≡ have_run l w back
 some_run l w [] some = refl
 some_run l w (p ∷ back) some = is_less 0 (length (p ∷ back)) _ refl (omega arith) ∙ sym (ap (λ b. b || have_run l w back) (is_less 0 (length (walk_at l p.choices w)) _ refl some.0))
 
 -- a loop that looks for one
-run_at_place : (l : Limits) (w : World) (ps : List Piece) (i : ℕ) (p : Piece) → i < length ps → p ≡ get_or ps i p → have_run l w (take (i + 1) ps) ≡ (have_run l w (take i ps) || nat_lt 0 (length (walk_at l p.choices w)))
+run_at_place : (l : SearchLimits) (w : World) (ps : List Piece) (i : ℕ) (p : Piece) → i < length ps → p ≡ get_or ps i p → have_run l w (take (i + 1) ps) ≡ (have_run l w (take i ps) || nat_lt 0 (length (walk_at l p.choices w)))
 run_at_place l w ps i p within read =
     let test : Piece → Bool = λ q. nat_lt 0 (length (walk_at l q.choices w)) in
     ap (have_run l w) (take_next ps i p within read) ∙ list_any-append test (take i ps) (p ∷ []) ∙ or_nothing (have_run l w (take i ps)) (test p)
 
-pub run_next : (l : Limits) (w : World) (ps : List Piece) (i : ℕ) (p : Piece) (b : Bool) → i < length ps → p ≡ get_or ps i p → have_run l w (take i ps) ≡ false → b ≡ nat_lt 0 (length (walk_at l p.choices w)) → b ≡ false → have_run l w (take (i + 1) ps) ≡ false
+pub run_next : (l : SearchLimits) (w : World) (ps : List Piece) (i : ℕ) (p : Piece) (b : Bool) → i < length ps → p ≡ get_or ps i p → have_run l w (take i ps) ≡ false → b ≡ nat_lt 0 (length (walk_at l p.choices w)) → b ≡ false → have_run l w (take (i + 1) ps) ≡ false
 run_next l w ps i p b within read none is off = run_at_place l w ps i p within read ∙ ap (λ x. x || nat_lt 0 (length (walk_at l p.choices w))) none ∙ sym is ∙ off
 
 or_true : (b : Bool) → (b || true) ≡ true
 or_true true = refl
 or_true false = refl
 
-true_in_front : (l : Limits) (w : World) (n : ℕ) (ps : List Piece) → have_run l w (take n ps) ≡ true → have_run l w ps ≡ true
+true_in_front : (l : SearchLimits) (w : World) (n : ℕ) (ps : List Piece) → have_run l w (take n ps) ≡ true → have_run l w ps ≡ true
 true_in_front l w n ps h = ap (have_run l w) (sym (take_drop n ps)) ∙ list_any-append (λ (q : Piece). nat_lt 0 (length (walk_at l q.choices w))) (take n ps) (drop n ps) ∙ ap (λ b. b || have_run l w (drop n ps)) h
 
-pub run_found : (l : Limits) (w : World) (ps : List Piece) (i : ℕ) (p : Piece) (b : Bool) → i < length ps → p ≡ get_or ps i p → b ≡ nat_lt 0 (length (walk_at l p.choices w)) → b ≡ true → true ≡ have_run l w ps
+pub run_found : (l : SearchLimits) (w : World) (ps : List Piece) (i : ℕ) (p : Piece) (b : Bool) → i < length ps → p ≡ get_or ps i p → b ≡ nat_lt 0 (length (walk_at l p.choices w)) → b ≡ true → true ≡ have_run l w ps
 run_found l w ps i p b within read is on =
     sym (true_in_front l w (i + 1) ps (run_at_place l w ps i p within read ∙ ap (λ x. have_run l w (take i ps) || x) (sym is ∙ on) ∙ or_true (have_run l w (take i ps))))
 
-pub run_none : (l : Limits) (w : World) (ps : List Piece) (i : ℕ) → length ps ≤ i → have_run l w (take i ps) ≡ false → false ≡ have_run l w ps
+pub run_none : (l : SearchLimits) (w : World) (ps : List Piece) (i : ℕ) → length ps ≤ i → have_run l w (take i ps) ≡ false → false ≡ have_run l w ps
 run_none l w ps i long none = sym none ∙ ap (have_run l w) (take_all i ps long)
 
 -- where nothing falls asleep, each piece has one
-pub plain_left : (l : Limits) (w : World) (ps : List Piece) (n : ℕ) → AllFollow → l.ends ≡ false → AllByRecursion (λ cs. Reaches (decides_by l.ends) l.fuel cs w) (choices_of ps) → nat_lt n (length ps) ≡ have_run l w (drop n ps)
+pub plain_left : (l : SearchLimits) (w : World) (ps : List Piece) (n : ℕ) → AllFollow → l.ends ≡ false → AllByRecursion (λ cs. Reaches (decides_by l.ends) l.fuel cs w) (choices_of ps) → nat_lt n (length ps) ≡ have_run l w (drop n ps)
 plain_left l w ps n law off reached =
     less_same n (length ps) 0 (length (drop n ps)) (λ h. omega (arith, length-drop n ps, h)) (λ h. omega (arith, length-drop n ps, h)) ∙ some_run l w (drop n ps) (some_behind l w n ps (all_some l w ps law off reached))
 
@@ -219,12 +222,12 @@ or_none : (b : Bool) → b ≡ (b || false)
 or_none true = refl
 or_none false = refl
 
-pub all_parts : (l : Limits) (w : World) (ps : List Piece) (i : ℕ) (ls : List leaf.Leaf) → length ps ≤ i → ls ≡ parts l w (take i ps) → (l.until_bad ≡ true → any_bad ls ≡ false) → ls ≡ report_of l w ps
+pub all_parts : (l : SearchLimits) (w : World) (ps : List Piece) (i : ℕ) (ls : List leaf.SearchLeaf) → length ps ≤ i → ls ≡ parts l w (take i ps) → (l.until_bad ≡ true → any_bad ls ≡ false) → ls ≡ report_of l w ps
 all_parts l w ps i ls long is good =
     let whole : ls ≡ parts l w ps = is ∙ ap (parts l w) (take_all i ps long) in
     whole ∙ sym (ended_same l.until_bad (parts l w ps) (λ h. up_none (parts l w ps) (ap any_bad (sym whole) ∙ good h)))
 
-pub all_more : (l : Limits) (w : World) (ps : List Piece) (i : ℕ) (ls : List leaf.Leaf) (b : Bool) → length ps ≤ i → ls ≡ parts l w (take i ps) → (l.until_bad ≡ true → any_bad ls ≡ false) → b ≡ has_more l w (take i ps) → b ≡ more_of l w ps
+pub all_more : (l : SearchLimits) (w : World) (ps : List Piece) (i : ℕ) (ls : List leaf.SearchLeaf) (b : Bool) → length ps ≤ i → ls ≡ parts l w (take i ps) → (l.until_bad ≡ true → any_bad ls ≡ false) → b ≡ has_more l w (take i ps) → b ≡ more_of l w ps
 all_more l w ps i ls b long is good more =
     let whole : ls ≡ parts l w ps = is ∙ ap (parts l w) (take_all i ps long) in
     let report : parts l w ps ≡ report_of l w ps = sym whole ∙ all_parts l w ps i ls long is good in
@@ -236,13 +239,13 @@ all_more l w ps i ls b long is good more =
 
 -- ---- a report ends after a piece with a bad leaf
 
-ended_parts : (l : Limits) (w : World) (ps : List Piece) (n : ℕ) (ls : List leaf.Leaf) → l.until_bad ≡ true → ls ≡ parts l w (take n ps) → any_bad ls ≡ true → up_to_bad ls ≡ ls → ls ≡ report_of l w ps
+ended_parts : (l : SearchLimits) (w : World) (ps : List Piece) (n : ℕ) (ls : List leaf.SearchLeaf) → l.until_bad ≡ true → ls ≡ parts l w (take n ps) → any_bad ls ≡ true → up_to_bad ls ≡ ls → ls ≡ report_of l w ps
 ended_parts l w ps n ls until is bad up =
     let split : parts l w ps ≡ ls ++ parts l w (drop n ps) =
     ap (parts l w) (sym (take_drop n ps)) ∙ flat_map-append (λ (q : Piece). part l q.choices w) (take n ps) (drop n ps) ∙ ap (λ xs. xs ++ parts l w (drop n ps)) (sym is) in
     sym (ap (λ b. ended_by b (parts l w ps)) until ∙ ap up_to_bad split ∙ up_has ls (parts l w (drop n ps)) bad ∙ up)
 
-pub ends_parts : (l : Limits) (w : World) (ps : List Piece) (n : ℕ) (cs : List ℕ) (old ls : List leaf.Leaf) (last : Bool) → ls ≡ parts l w (take n ps) → ls ≡ old ++ part l cs w → (l.until_bad ≡ true → any_bad old ≡ false)
+pub ends_parts : (l : SearchLimits) (w : World) (ps : List Piece) (n : ℕ) (cs : List ℕ) (old ls : List leaf.SearchLeaf) (last : Bool) → ls ≡ parts l w (take n ps) → ls ≡ old ++ part l cs w → (l.until_bad ≡ true → any_bad old ≡ false)
     → last ≡ (l.until_bad && any_bad (part l cs w)) → last ≡ true → ls ≡ report_of l w ps
 ends_parts l w ps n cs old ls last is added good is_last on =
     let both = both_true l.until_bad (any_bad (part l cs w)) (sym is_last ∙ on) in
@@ -250,7 +253,7 @@ ends_parts l w ps n cs old ls last is added good is_last on =
     (ap any_bad added ∙ bad_behind old (part l cs w) (good both.0) ∙ both.1)
     (ap up_to_bad added ∙ up_behind old (part l cs w) (good both.0) ∙ ap (λ xs. old ++ xs) (listed_up l (map shown (walk_at l cs w)) both.0) ∙ sym added)
 
-pub ends_more : (l : Limits) (w : World) (ps : List Piece) (n : ℕ) (cs : List ℕ) (old ls : List leaf.Leaf) (last m left b : Bool) → ls ≡ parts l w (take n ps) → ls ≡ old ++ part l cs w → (l.until_bad ≡ true → any_bad old ≡ false) → last ≡ (l.until_bad && any_bad (part l cs w)) → last ≡ true
+pub ends_more : (l : SearchLimits) (w : World) (ps : List Piece) (n : ℕ) (cs : List ℕ) (old ls : List leaf.SearchLeaf) (last m left b : Bool) → ls ≡ parts l w (take n ps) → ls ≡ old ++ part l cs w → (l.until_bad ≡ true → any_bad old ≡ false) → last ≡ (l.until_bad && any_bad (part l cs w)) → last ≡ true
     → m ≡ has_more l w (take n ps) → left ≡ have_run l w (drop n ps) → b ≡ (m || left) → b ≡ more_of l w ps
 ends_more l w ps n cs old ls last m left b is added good is_last on more some behind =
     let both = both_true l.until_bad (any_bad (part l cs w)) (sym is_last ∙ on) in
@@ -262,7 +265,7 @@ ends_more l w ps n cs old ls last m left b is added good is_last on more some be
 
 -- ---- the pieces of a split
 
-any_choices : (l : Limits) (w : World) (ps : List Piece) → l.until_bad ≡ false → has_more l w ps ≡ list_any (λ cs. nat_lt l.runs (length (walk_at l cs w))) (choices_of ps)
+any_choices : (l : SearchLimits) (w : World) (ps : List Piece) → l.until_bad ≡ false → has_more l w ps ≡ list_any (λ cs. nat_lt l.runs (length (walk_at l cs w))) (choices_of ps)
 any_choices l w [] off = refl
 any_choices l w (p ∷ ps) off =
     let own : part_left l p.choices w ≡ nat_lt l.runs (length (walk_at l p.choices w)) =
@@ -270,11 +273,11 @@ any_choices l w (p ∷ ps) off =
     ∙ ap (nat_lt l.runs) (length-map (walk_at l p.choices w) shown) in
     ap (λ b. b || has_more l w ps) own ∙ ap (λ b. nat_lt l.runs (length (walk_at l p.choices w)) || b) (any_choices l w ps off)
 
-pub parts_are : (k : ℕ) (l : Limits) (w : World) (ps : List Piece) → ps ≡ numbered 0 (pieces (decides_by l.ends) k l.fuel w) → report_of l w ps ≡ split_report k l w
+pub parts_are : (k : ℕ) (l : SearchLimits) (w : World) (ps : List Piece) → ps ≡ numbered 0 (pieces (decides_by l.ends) k l.fuel w) → report_of l w ps ≡ split_report k l w
 parts_are k l w ps made =
     ap (ended_by l.until_bad) (sym (flat_map-map (λ cs. part l cs w) (λ (p : Piece). p.choices) ps) ∙ ap (flat_map (λ cs. part l cs w)) (choices_are (decides_by l.ends) l.fuel k w ps made))
 
-pub more_is : (k : ℕ) (l : Limits) (w : World) (ps : List Piece) → ps ≡ numbered 0 (pieces (decides_by l.ends) k l.fuel w) → more_of l w ps ≡ split_more k l w
+pub more_is : (k : ℕ) (l : SearchLimits) (w : World) (ps : List Piece) → ps ≡ numbered 0 (pieces (decides_by l.ends) k l.fuel w) → more_of l w ps ≡ split_more k l w
 more_is k l w ps made =
     let all : walks l w ps ≡ walk_of l w = sym (flat_map-map (λ cs. walk_at l cs w) (λ (p : Piece). p.choices) ps) ∙ ap (flat_map (λ cs. walk_at l cs w)) (choices_are (decides_by l.ends) l.fuel k w ps made) ∙ pieces_join k l w in
     if_same l.until_bad _ _ _ _ (λ i. nat_lt (length (parts_are k l w ps made i)) (length (all i)))

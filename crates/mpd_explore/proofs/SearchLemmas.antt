@@ -9,11 +9,11 @@ use Rattle.mpd_model.specs.steps.World.{World, start}
 use Rattle.mpd_model.specs.steps.Next.{next, fold}
 use Rattle.mpd_model.specs.runs.Decisions.{CanFollow}
 use Rattle.mpd_model.specs.runs.Trail.{Trail, Standing, IsReached, done_steps}
-use Rattle.mpd_core.specs.Run.{first_of}
+use Rattle.mpd_trail.specs.Run.{first_of}
 use Rattle.mpd_policy.specs.declared.ending.Ending.{Ending}
 use Rattle.mpd_policy.specs.declared.ending.Ending.TheVariants as ending_is
-use Rattle.mpd_policy.specs.declared.along.Stop.{Stop}
-use Rattle.mpd_policy.specs.declared.along.Stop.TheVariants.{Ended, Fuel, Untaken}
+use Rattle.mpd_policy.specs.declared.along.WalkEnd.{WalkEnd}
+use Rattle.mpd_policy.specs.declared.along.WalkEnd.TheVariants.{Ended, Fuel, Untaken}
 use Rattle.mpd_policy.specs.Walk.{here as run_here, prefixed, stopped, ending_by}
 use Rattle.mpd_policy.specs.Walked.{Walked}
 use Rattle.mpd_policy.specs.Walked.Walked.{here, forced, chosen}
@@ -162,10 +162,10 @@ module _ (s : Search) {C N : Type 0} (sleeps : C → Bool) (frontier : C → Fro
 
   -- ---- and where it stops
 
-  abbrev Walking : Standing → C → Stop → Standing → C → Type 0
+  abbrev Walking : Standing → C → WalkEnd → Standing → C → Type 0
   Walking d c stop e f = Walks s.decides Takes Leaves Passes s.limit d c stop e f
 
-  walk_leads : ((w : World) → CanFollow w (s.decides w)) → (d e : Standing) (c f : C) (stop : Stop) → At s (opened c) d → sleeps c ≡ s.sleeps → (h : Walking d c stop e f) → Leads c (done_steps d.trail) d.world h.middle (done_steps e.trail) e.world
+  walk_leads : ((w : World) → CanFollow w (s.decides w)) → (d e : Standing) (c f : C) (stop : WalkEnd) → At s (opened c) d → sleeps c ≡ s.sleeps → (h : Walking d c stop e f) → Leads c (done_steps d.trail) d.world h.middle (done_steps e.trail) e.world
   walk_leads law d e c f stop at on h =
       let deep = h.gone.depth in
       let most = within_limit s.decides Takes Leaves Passes s.limit d e c f stop h in
@@ -196,7 +196,7 @@ module _ (s : Search) {C N : Type 0} (sleeps : C → Bool) (frontier : C → Fro
         omega (arith, less, few),
       )
 
-  stop_by : ((w : World) → CanFollow w (s.decides w)) → (d e : Standing) (c f : C) (stop : Stop) → At s (opened c) d → sleeps c ≡ s.sleeps → Beyond d e → Walking d c stop e f → Stopped s (opened c) (frontier c).asleep d (ending_after s.decides stop e.world) (opened f) e
+  stop_by : ((w : World) → CanFollow w (s.decides w)) → (d e : Standing) (c f : C) (stop : WalkEnd) → At s (opened c) d → sleeps c ≡ s.sleeps → Beyond d e → Walking d c stop e f → Stopped s (opened c) (frontier c).asleep d (ending_after s.decides stop e.world) (opened f) e
   stop_by law d e c f (Ended o) at on beyond h =
       let l = walk_leads law d e c f (Ended o) at on h in
       let room = h.stops.2 in
@@ -224,7 +224,7 @@ module _ (s : Search) {C N : Type 0} (sleeps : C → Bool) (frontier : C → Fro
       (all_asleep d e c h.middle u.candidates e.trail.depth here l room u.choice asleep)
 
   -- the same, with how it ends as the code tells it
-  pub stops : ((w : World) → CanFollow w (s.decides w)) → (d e : Standing) (c f : C) (stop : Stop) (o : Option Ending) → At s (opened c) d → sleeps c ≡ s.sleeps → Beyond d e → Walking d c stop e f → o ≡ ending_after s.decides stop e.world
+  pub stops : ((w : World) → CanFollow w (s.decides w)) → (d e : Standing) (c f : C) (stop : WalkEnd) (o : Option Ending) → At s (opened c) d → sleeps c ≡ s.sleeps → Beyond d e → Walking d c stop e f → o ≡ ending_after s.decides stop e.world
       → Stopped s (opened c) (frontier c).asleep d o (opened f) e
   stops law d e c f stop o at on beyond h is = subst (λ (x : Option Ending). Stopped s (opened c) (frontier c).asleep d x (opened f) e) (sym is) (stop_by law d e c f stop at on beyond h)
 
@@ -234,7 +234,7 @@ module _ (s : Search) {C N : Type 0} (sleeps : C → Bool) (frontier : C → Fro
   named_along c e n w v cs path (chosen _ d _ _ i _ u _ a candidates bs rest is read taken step h) = named_along d e (suc n) u v bs rest h ∙ taken.2
 
   -- what it is lent stays the same place
-  pub same_place : (limit : ℕ) (d e : Standing) (c f : C) (stop : Stop) → Walks s.decides Takes Leaves Passes limit d c stop e f → name f ≡ name c
+  pub same_place : (limit : ℕ) (d e : Standing) (c f : C) (stop : WalkEnd) → Walks s.decides Takes Leaves Passes limit d c stop e f → name f ≡ name c
   same_place limit d e c f (Ended o) h = ap name h.stops.0 ∙ named_along c h.middle d.trail.depth d.world e.world h.gone.choices h.gone.path h.gone.walked
   same_place limit d e c f Fuel h = ap name h.stops.0 ∙ named_along c h.middle d.trail.depth d.world e.world h.gone.choices h.gone.path h.gone.walked
   same_place limit d e c f Untaken h = h.stops.0.left.2 ∙ named_along c h.middle d.trail.depth d.world e.world h.gone.choices h.gone.path h.gone.walked

@@ -1,25 +1,35 @@
 -- What `verify` finds is so.
-use Rattle.std.proofs.Common.{◌≡◌, ◌≢◌, ℕ, zero, suc, ◌<◌, ◌+◌, ◌==◌, ◌&&◌, Bool, true, false, eq-eqb, List, [], ◌∷◌, length, take, get_or, Option, Some, None, IsSome, Result, Ok, Err, IfErr, OnOk, refl, sym, ap, subst, ◌∙◌, arith, add-one}
+use Rattle.std.proofs.Common.{◌≡◌, ◌≢◌, ℕ, zero, suc, ◌<◌, ◌+◌, ◌==◌, ◌&&◌, Bool, true, false, eq-eqb, List, [], ◌∷◌, ◌++◌, length, take, get_or, Option, Some, None, IsSome, Result, Ok, Err, IfErr, OnOk, refl, sym, ap, subst, ◌∙◌, arith, add-one}
 use Rattle.std.proofs.lemmas.List.{take_more, take_all}
 use Rattle.std.proofs.lemmas.Option.{slice_get-get_or, slice_get_past}
 use Rattle.std.proofs.lemmas.Bool.{eqb-true}
 use Rattle.std.specs.Bool.{Decides}
 use Rattle.std.specs.Option.{option_and_then}
 use Rattle.mpd_model.specs.declared.step.CallId.{CallId}
+use Rattle.mpd_model.specs.declared.call.Mode.{Mode}
+use Rattle.mpd_model.specs.declared.decision.Decision.{Decision}
+use Rattle.mpd_model.specs.declared.outcome.IssuedCall.{IssuedCall}
+use Rattle.mpd_model.specs.declared.outcome.Outcome.{Outcome}
+use Rattle.mpd_model.specs.declared.outcome.Outcome.TheVariants as outcome_is
+use Rattle.mpd_model.specs.script.Program.{Program}
 use Rattle.mpd_model.specs.declared.step.Step.{Step}
-use Rattle.mpd_model.specs.steps.World.{World}
+use Rattle.mpd_model.specs.steps.World.{World, start}
 use Rattle.mpd_model.specs.steps.Next.{next, fold}
-use Rattle.mpd_model.specs.steps.Outcomes.{outcome}
+use Rattle.mpd_model.specs.steps.Outcomes.{ids_of, outcome}
 use Rattle.mpd_core.specs.Listed.{listed}
-use Rattle.mpd_core.proofs.KeptLemmas.{fold-append}
+use Rattle.mpd_trail.proofs.KeptLemmas.{fold-append}
 use Rattle.mpd_explore.specs.declared.report.RankTrap.{RankTrap}
 use Rattle.mpd_explore.specs.declared.report.WitnessEnd.{WitnessEnd}
 use Rattle.mpd_explore.specs.declared.report.WitnessEnd.TheVariants.{Deadlock, Trap}
+use Rattle.mpd_explore.specs.declared.report.EndWitness.{EndWitness}
 use Rattle.mpd_explore.specs.declared.report.Witness.{Witness}
+use Rattle.mpd_explore.specs.declared.report.SearchLeaf.{SearchLeaf}
+use Rattle.mpd_policy.specs.declared.ending.Ending.TheVariants.{Ended}
+use Rattle.mpd_policy.specs.Walk.{run_by, steps_by}
 use Rattle.mpd_explore.specs.declared.verifier.WitnessFault.{WitnessFault}
 use Rattle.mpd_explore.specs.declared.verifier.WitnessFault.TheVariants.{NoSuchStep, NotStuck, WrongBlocked, Memory}
 use Rattle.mpd_explore.specs.Stops.{StopsAt, IsLeft, WantsMemory}
-use Rattle.mpd_explore.specs.Witness.{end_in, IsWitnessFrom, HasFault, FaultAtEnd, FaultBy}
+use Rattle.mpd_explore.specs.Witness.{end_in, IsEndWitnessFrom, IsWitness, WitnessBy, HasWitness, HasFault, FaultAtEnd, FaultBy}
 
 -- ---- calls that are one
 
@@ -168,19 +178,19 @@ no_fault w i (a ∷ more) end last e leads ends h = no_fault_by (next w a) i mor
 
 -- ---- what is found of a witness
 
-pub only_memory : (w : World) (x : Witness) (e : WitnessFault) → IsWitnessFrom w x → (e ≢ Memory → HasFault w 0 x.steps x.end e) → e ≡ Memory
+pub only_memory : (w : World) (x : EndWitness) (e : WitnessFault) → IsEndWitnessFrom w x → (e ≢ Memory → HasFault w 0 x.steps x.end e) → e ≡ Memory
 only_memory w x (NoSuchStep i) h f = absurd (no_fault w 0 x.steps x.end h.last (NoSuchStep i) h.leads h.ends (f (λ same. cc)))
 only_memory w x NotStuck h f = absurd (no_fault w 0 x.steps x.end h.last NotStuck h.leads h.ends (f (λ same. cc)))
 only_memory w x WrongBlocked h f = absurd (no_fault w 0 x.steps x.end h.last WrongBlocked h.leads h.ends (f (λ same. cc)))
 only_memory w x Memory h f = refl
 
 -- a witness is refused for want of memory alone
-pub accepted_by : (w : World) (x : Witness) (r : Result Unit WitnessFault) → IfErr r (λ e. e ≢ Memory → HasFault w 0 x.steps x.end e) → IsWitnessFrom w x → IfErr r (λ e. e ≡ Memory)
+pub accepted_by : (w : World) (x : EndWitness) (r : Result Unit WitnessFault) → IfErr r (λ e. e ≢ Memory → HasFault w 0 x.steps x.end e) → IsEndWitnessFrom w x → IfErr r (λ e. e ≡ Memory)
 accepted_by w x (Ok u) f h = tt
 accepted_by w x (Err e) f h = only_memory w x e h f
 
 -- and what is accepted is one
-pub witnessed : (w last : World) (x : Witness) (r : Result Unit WitnessFault) → OnOk r ((fold w x.steps ≡ Some last) × (end_in (outcome last) ≡ Some x.end)) → OnOk r (IsWitnessFrom w x)
+pub witnessed : (w last : World) (x : EndWitness) (r : Result Unit WitnessFault) → OnOk r ((fold w x.steps ≡ Some last) × (end_in (outcome last) ≡ Some x.end)) → OnOk r (IsEndWitnessFrom w x)
 witnessed w last x (Ok u) h = record { last = last; leads = h.0; ends = h.1 }
 witnessed w last x (Err e) h = tt
 
@@ -196,3 +206,38 @@ end_fault w last steps given end (Err e) same leads h = λ k. subst (λ (xs : Li
 
 pub wants_last : (w last : World) (steps given : List Step) → given ≡ steps → fold w given ≡ Some last → 0 < listed (outcome last) → WantsMemory w steps last
 wants_last w last steps given same leads some = subst (λ (xs : List Step). WantsMemory w xs last) same (wants_at_end w last given leads some)
+
+-- ---- a witness of a deadlock
+
+-- the calls of that deadlock, with their statements
+deadlock_at : (o : Option Outcome) (blocked : List CallId) → end_in o ≡ Some (Deadlock blocked) → (calls : List IssuedCall) × (o ≡ Some (outcome_is.Deadlock calls)) × (ids_of calls ≡ blocked)
+deadlock_at None blocked e = cc
+deadlock_at (Some outcome_is.Done) blocked e = cc
+deadlock_at (Some (outcome_is.Leftovers calls)) blocked e = cc
+deadlock_at (Some (outcome_is.Deadlock calls)) blocked e = (calls, refl, same_calls (ids_of calls) blocked e)
+deadlock_at (Some (outcome_is.Trap ranks)) blocked e = absurd (no_fault_at_end (end_in (Some (outcome_is.Trap ranks))) (Deadlock blocked) NotStuck e refl)
+
+-- what leads to a deadlock and says so is one
+pub deadlock_witnessed : (s : Program) (mode : Mode) (x : Witness) (last : World) → fold (start s mode) x.steps ≡ Some last → end_in (outcome last) ≡ Some (Deadlock x.blocked) → IsWitness s mode x
+deadlock_witnessed s mode x last leads ends =
+    let there = deadlock_at (outcome last) x.blocked ends in
+    record { last = last; calls = there.0; leads = leads; stuck = there.1; are_blocked = there.2 }
+
+-- and has no fault
+as_end : (s : Program) (mode : Mode) (x : Witness) → IsWitness s mode x → IsEndWitnessFrom (start s mode) (record { steps = x.steps; end = Deadlock x.blocked })
+as_end s mode x h = record { last = h.last; leads = h.leads; ends = ap end_in h.stuck ∙ ap (λ calls. Some (Deadlock calls)) h.are_blocked }
+
+pub deadlock_checked : (s : Program) (mode : Mode) (x : Witness) (w last : World) (r : Result Unit WitnessFault) → w ≡ start s mode → OnOk r ((fold w x.steps ≡ Some last) × (end_in (outcome last) ≡ Some (Deadlock x.blocked))) → OnOk r (IsWitness s mode x)
+deadlock_checked s mode x w last (Ok u) at h = deadlock_witnessed s mode x last (ap (λ (v : World). fold v x.steps) (sym at) ∙ h.0) h.1
+deadlock_checked s mode x w last (Err e) at h = tt
+
+pub deadlock_accepted : (s : Program) (mode : Mode) (x : Witness) (r : Result Unit WitnessFault) → IfErr r (λ e. e ≢ Memory → HasFault (start s mode) 0 x.steps (Deadlock x.blocked) e) → IsWitness s mode x → IfErr r (λ e. e ≡ Memory)
+deadlock_accepted s mode x r f h = accepted_by (start s mode) (record { steps = x.steps; end = Deadlock x.blocked }) r f (as_end s mode x h)
+
+-- what a report has of a deadlock is one
+pub deadlock_has : (decide : World → Decision) (s : Program) (mode : Mode) (before : List Step) (n : ℕ) (w : World) (l : SearchLeaf) (calls : List IssuedCall) → HasWitness decide s mode before n w l → l.ending ≡ Ended (outcome_is.Deadlock calls)
+    → IsWitness s mode (record { steps = before ++ steps_by (run_by decide n l.choices w); blocked = ids_of calls })
+deadlock_has decide s mode before n w l calls h is =
+    let wide : WitnessBy s mode (before ++ h.run.steps) (Ended (outcome_is.Deadlock calls)) = subst (WitnessBy s mode (before ++ h.run.steps)) is h.witness in
+    let own : IsWitness s mode (record { steps = before ++ h.run.steps; blocked = ids_of calls }) = deadlock_witnessed s mode (record { steps = before ++ h.run.steps; blocked = ids_of calls }) wide.last wide.leads wide.ends in
+    subst (λ (xs : List Step). IsWitness s mode (record { steps = before ++ xs; blocked = ids_of calls })) (sym (ap steps_by h.by)) own

@@ -13,12 +13,12 @@ use Rattle.mpd_model.specs.steps.World.{World, start}
 use Rattle.mpd_model.specs.steps.Next.{next, fold}
 use Rattle.mpd_model.specs.steps.Outcomes.{outcome}
 use Rattle.mpd_model.specs.runs.Decisions.{decision, CanFollow}
-use Rattle.mpd_core.proofs.KeptLemmas.{fold-append}
+use Rattle.mpd_trail.proofs.KeptLemmas.{fold-append}
 use Rattle.mpd_policy.specs.declared.ending.Ending.{Ending}
 use Rattle.mpd_policy.specs.declared.ending.Ending.TheVariants.{Ended, Cut}
 use Rattle.mpd_policy.specs.Walk.{Run, stepped, chosen, runs_of, stopped, run_from, run_taken, run_stopped, run_by}
 use Rattle.mpd_policy.proofs.WayLemmas.{run_is}
-use Rattle.mpd_explore.specs.declared.report.Leaf as leaf
+use Rattle.mpd_explore.specs.declared.report.SearchLeaf as leaf
 use Rattle.mpd_explore.specs.Report.{shown}
 use Rattle.mpd_explore.specs.Sleeping.{awake_runs, put_to_sleep, branches_by, followed_by, awake_by}
 use Rattle.mpd_explore.specs.Witness.{end_in, WitnessBy, HasWitness}
@@ -122,7 +122,7 @@ module _ (decide : World → Decision) where
   all_shown s mode before n w [] law there h = tt
   all_shown s mode before n w (r ∷ rs) law there h = (one_holds s mode before n w r law there h.0, all_shown s mode before n w rs law there h.1)
 
-all_taken : (P : leaf.Leaf → Type 0) (n : ℕ) (ls : List leaf.Leaf) → AllByRecursion P ls → AllByRecursion P (take n ls)
+all_taken : (P : leaf.SearchLeaf → Type 0) (n : ℕ) (ls : List leaf.SearchLeaf) → AllByRecursion P ls → AllByRecursion P (take n ls)
 all_taken P zero ls h = tt
 all_taken P (suc n) [] h = tt
 all_taken P (suc n) (l ∷ ls) h = (h.0, all_taken P n ls h.1)
@@ -152,7 +152,7 @@ module _ (decide : World → Decision) (same : Step → Step → Bool) (keeps : 
   awake_holds zero asleep w = all_stopped decide w (decide w) refl
   awake_holds (suc n) asleep w = all_followed n (awake_holds n) asleep w (decide w) refl
 
-  pub awake_witnessed : (asleep : List Step) (s : Program) (mode : Mode) (before : List Step) (n k : ℕ) (w : World) (items : List leaf.Leaf) → ((v : World) → CanFollow v (decide v)) → fold (start s mode) before ≡ Some w → items ≡ take k (map shown (runs n asleep w)) → AllByRecursion (HasWitness decide s mode before n w) items
+  pub awake_witnessed : (asleep : List Step) (s : Program) (mode : Mode) (before : List Step) (n k : ℕ) (w : World) (items : List leaf.SearchLeaf) → ((v : World) → CanFollow v (decide v)) → fold (start s mode) before ≡ Some w → items ≡ take k (map shown (runs n asleep w)) → AllByRecursion (HasWitness decide s mode before n w) items
   awake_witnessed asleep s mode before n k w items law there is =
       rw is (all_taken (HasWitness decide s mode before n w) k (map shown (runs n asleep w)) (all_shown decide s mode before n w (runs n asleep w) law there (awake_holds n asleep w)))
 

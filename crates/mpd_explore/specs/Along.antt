@@ -8,8 +8,8 @@ use Rattle.mpd_model.specs.declared.decision.Decision.TheVariants.{Forced, Choic
 use Rattle.mpd_model.specs.steps.World.{World}
 use Rattle.mpd_model.specs.steps.Next.{next}
 use Rattle.mpd_model.specs.runs.Trail.{Standing}
-use Rattle.mpd_explore.specs.declared.report.Leaf as leaf
-use Rattle.mpd_explore.specs.declared.report.Limits.{Limits}
+use Rattle.mpd_explore.specs.declared.report.SearchLeaf as leaf
+use Rattle.mpd_explore.specs.declared.report.SearchLimits.{SearchLimits}
 use Rattle.mpd_policy.specs.Walk.{Run, prefixed, runs_of, run_by}
 use Rattle.mpd_policy.specs.Walks.{Beyond}
 use Rattle.mpd_explore.specs.Report.{ended_by}
@@ -96,24 +96,24 @@ choices_of ps = map (λ (p : Piece). p.choices) ps
 
 -- ---- the parts of some pieces
 
-abbrev pub parts : Limits → World → List Piece → List leaf.Leaf
+abbrev pub parts : SearchLimits → World → List Piece → List leaf.SearchLeaf
 parts l w ps = flat_map (λ (p : Piece). part l p.choices w) ps
 
 -- whether one of them has more
-abbrev pub has_more : Limits → World → List Piece → Bool
+abbrev pub has_more : SearchLimits → World → List Piece → Bool
 has_more l w ps = list_any (λ (p : Piece). part_left l p.choices w) ps
 
 -- whether one of them has a run
-abbrev pub have_run : Limits → World → List Piece → Bool
+abbrev pub have_run : SearchLimits → World → List Piece → Bool
 have_run l w ps = list_any (λ (p : Piece). nat_lt 0 (length (walk_at l p.choices w))) ps
 
 -- all their runs
-abbrev pub walks : Limits → World → List Piece → List Run
+abbrev pub walks : SearchLimits → World → List Piece → List Run
 walks l w ps = flat_map (λ (p : Piece). walk_at l p.choices w) ps
 
 -- the report of these pieces, and whether there are others
-abbrev pub report_of : Limits → World → List Piece → List leaf.Leaf
+abbrev pub report_of : SearchLimits → World → List Piece → List leaf.SearchLeaf
 report_of l w ps = ended_by l.until_bad (parts l w ps)
 
-abbrev pub more_of : Limits → World → List Piece → Bool
+abbrev pub more_of : SearchLimits → World → List Piece → Bool
 more_of l w ps = if l.until_bad then nat_lt (length (report_of l w ps)) (length (walks l w ps)) else has_more l w ps

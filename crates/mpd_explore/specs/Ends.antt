@@ -9,7 +9,7 @@ use Rattle.mpd_model.specs.declared.outcome.TrappedRank.{TrappedRank}
 use Rattle.mpd_model.specs.steps.World.{id_eq}
 use Rattle.mpd_policy.specs.declared.ending.Ending.{Ending}
 use Rattle.mpd_policy.specs.declared.ending.Ending.TheVariants.{Ended, Cut}
-use Rattle.mpd_explore.specs.declared.report.Leaf.{Leaf}
+use Rattle.mpd_explore.specs.declared.report.SearchLeaf.{SearchLeaf}
 use Rattle.mpd_explore.specs.Traps.{trap_eq}
 
 -- ---- ends that are the same
@@ -35,23 +35,23 @@ ending_eq e f = false
 
 -- ---- leaves that end in the same way
 
-abbrev pub same_end : Leaf → Leaf → Bool
+abbrev pub same_end : SearchLeaf → SearchLeaf → Bool
 same_end l m = ending_eq l.ending m.ending
 
 -- those that end as no leaf before them does
-abbrev pub firsts : List Leaf → List Leaf
+abbrev pub firsts : List SearchLeaf → List SearchLeaf
 firsts [] = []
 firsts (l ∷ ls) = l ∷ filter (λ m. not (same_end l m)) (firsts ls)
 
 -- how many end as a leaf does
-abbrev pub times : List Leaf → Leaf → ℕ
+abbrev pub times : List SearchLeaf → SearchLeaf → ℕ
 times ls l = length (filter (same_end l) ls)
 
 -- whether one of some leaves ends so
-abbrev pub has_end : List Leaf → Ending → Bool
+abbrev pub has_end : List SearchLeaf → Ending → Bool
 has_end ls e = list_any (λ l. ending_eq l.ending e) ls
 
 -- how many stand before the first that ends as a leaf does
-abbrev pub before : List Leaf → Leaf → ℕ
+abbrev pub before : List SearchLeaf → SearchLeaf → ℕ
 before [] l = 0
 before (m ∷ ls) l = if same_end m l then 0 else suc (before ls l)

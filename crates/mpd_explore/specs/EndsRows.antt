@@ -13,8 +13,9 @@ use Rattle.mpd_model.specs.script.Program.{Program}
 use Rattle.mpd_model.specs.steps.World.{call_id, start}
 use Rattle.mpd_model.specs.steps.Outcomes.{issued_by}
 use Rattle.mpd_model.specs.runs.Decisions.{decision}
-use Rattle.mpd_explore.specs.declared.report.Leaf as leaf
-use Rattle.mpd_explore.specs.declared.report.Limits.{Limits}
+use Rattle.mpd_explore.specs.declared.report.SearchLeaf as leaf
+use Rattle.mpd_explore.specs.declared.report.SearchLimits.{SearchLimits}
+use Rattle.mpd_explore.specs.declared.report.Witnesses.TheVariants.{OfNone}
 use Rattle.mpd_policy.specs.declared.ending.Ending.{Ending}
 use Rattle.mpd_policy.specs.declared.ending.Ending.TheVariants.{Ended}
 use Rattle.mpd_policy.specs.Walk.{Run, walk}
@@ -50,10 +51,10 @@ unfolding awake_by wide_decision
 row_ends = refl
 
 -- the same by pieces: after the third and the fourth candidate what is left is asleep
-abbrev each_end : Limits
-each_end = record { runs = 9; fuel = 30; witnesses = false; until_bad = false; ends = true }
+abbrev each_end : SearchLimits
+each_end = record { runs = 9; fuel = 30; witnesses = OfNone; until_bad = false; ends = true }
 
-pub row_parts : map {B = List (List ℕ)} (λ (c : ℕ). map (λ (l : leaf.Leaf). l.choices) (part each_end (c ∷ []) (start races Rendezvous))) (0 ∷ 1 ∷ 2 ∷ 3 ∷ [])
+pub row_parts : map {B = List (List ℕ)} (λ (c : ℕ). map (λ (l : leaf.SearchLeaf). l.choices) (part each_end (c ∷ []) (start races Rendezvous))) (0 ∷ 1 ∷ 2 ∷ 3 ∷ [])
     ≡ ((0 ∷ 0 ∷ []) ∷ (0 ∷ 1 ∷ []) ∷ []) ∷ ((1 ∷ 0 ∷ []) ∷ (1 ∷ 1 ∷ []) ∷ []) ∷ [] ∷ [] ∷ []
 unfolding walk_from awake_by wide_decision
 row_parts = refl
@@ -77,8 +78,8 @@ three_sends = record {
 }
 
 -- each end once or every order, by a fuel of 30
-abbrev asked : Bool → Limits
-asked ends = record { runs = 9; fuel = 30; witnesses = false; until_bad = false; ends = ends }
+abbrev asked : Bool → SearchLimits
+asked ends = record { runs = 9; fuel = 30; witnesses = OfNone; until_bad = false; ends = ends }
 
 abbrev last_send : List IssuedCall
 last_send = issued_by 3 (call_id 0 2) ∷ []
@@ -93,7 +94,7 @@ unfolding pieces wide_decision
 row_wide_pieces = refl
 
 -- cut by no choice, by one and by two they are the same; the walk, which takes local steps first, has no choice, and one end
-pub row_wide_ends : map {B = List (List ℕ × Ending)} (λ (q : ℕ × Bool). map (λ (l : leaf.Leaf). (l.choices, l.ending)) (split_report q.0 (asked q.1) (start three_sends (Slots 1)))) ((0, true) ∷ (1, true) ∷ (2, true) ∷ (0, false) ∷ (2, false) ∷ [])
+pub row_wide_ends : map {B = List (List ℕ × Ending)} (λ (q : ℕ × Bool). map (λ (l : leaf.SearchLeaf). (l.choices, l.ending)) (split_report q.0 (asked q.1) (start three_sends (Slots 1)))) ((0, true) ∷ (1, true) ∷ (2, true) ∷ (0, false) ∷ (2, false) ∷ [])
     ≡ three_ends ∷ three_ends ∷ three_ends ∷ (([], Ended (o.Leftovers last_send)) ∷ []) ∷ (([], Ended (o.Leftovers last_send)) ∷ []) ∷ []
 unfolding pieces walk_from awake_by decision wide_decision
 row_wide_ends = refl

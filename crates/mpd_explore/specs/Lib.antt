@@ -8,6 +8,7 @@ pub mod Traps
 pub mod Ends
 pub mod Stops
 pub mod Faults
+pub mod Asked
 pub mod ReportText
 pub mod WitnessTexts
 pub mod Gathered
@@ -17,5 +18,8 @@ pub mod Along
 pub mod Slept
 pub mod PieceFaults
 pub mod PieceLaws
+pub mod WitnessLaws
 pub mod PieceRows
+pub mod WitnessRows
 pub mod EndsRows
+pub mod Deadlocks

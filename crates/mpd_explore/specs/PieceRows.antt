@@ -15,8 +15,9 @@ use Rattle.mpd_model.specs.steps.Outcomes.{issued_by}
 use Rattle.mpd_model.specs.runs.Decisions.{decision}
 use Rattle.mpd_policy.specs.declared.ending.Ending.{Ending}
 use Rattle.mpd_policy.specs.declared.ending.Ending.TheVariants.{Ended}
-use Rattle.mpd_explore.specs.declared.report.Leaf as leaf
-use Rattle.mpd_explore.specs.declared.report.Limits.{Limits}
+use Rattle.mpd_explore.specs.declared.report.SearchLeaf as leaf
+use Rattle.mpd_explore.specs.declared.report.SearchLimits.{SearchLimits}
+use Rattle.mpd_explore.specs.declared.report.Witnesses.TheVariants.{OfNone}
 use Rattle.mpd_policy.specs.Walk.{walk}
 use Rattle.mpd_explore.specs.Sleeping.{awake_by}
 use Rattle.mpd_explore.specs.Pieces.{pieces, walk_from, part, split_report, split_more}
@@ -63,8 +64,8 @@ abbrev turned_begun : World
 turned_begun = start turned Rendezvous
 
 -- so many leaves at most, by a fuel of 20, up to the first bad one or not
-abbrev up_to : Bool → ℕ → Limits
-up_to until_bad runs = record { runs = runs; fuel = 20; witnesses = false; until_bad = until_bad; ends = false }
+abbrev up_to : Bool → ℕ → SearchLimits
+up_to until_bad runs = record { runs = runs; fuel = 20; witnesses = OfNone; until_bad = until_bad; ends = false }
 
 -- the second receive is there only where the first has taken what rank 1 sent; with a fuel of 5 no choice is come to
 pub row_pieces : map {B = List (List ℕ)} (λ (q : ℕ × ℕ). pieces decision q.0 q.1 begun) ((0, 20) ∷ (1, 20) ∷ (2, 20) ∷ (3, 20) ∷ (2, 5) ∷ [])
@@ -72,7 +73,7 @@ pub row_pieces : map {B = List (List ℕ)} (λ (q : ℕ × ℕ). pieces decision
 unfolding pieces decision
 row_pieces = refl
 
-abbrev end_of : leaf.Leaf → List ℕ × Ending
+abbrev end_of : leaf.SearchLeaf → List ℕ × Ending
 end_of l = (l.choices, l.ending)
 
 abbrev both : List (List ℕ × Ending)

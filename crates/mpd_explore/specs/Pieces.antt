@@ -7,8 +7,8 @@ use Rattle.mpd_model.specs.declared.decision.Decision.{Decision}
 use Rattle.mpd_model.specs.declared.decision.Decision.TheVariants.{Forced, Choice, Leaf}
 use Rattle.mpd_model.specs.steps.World.{World}
 use Rattle.mpd_model.specs.steps.Next.{next}
-use Rattle.mpd_explore.specs.declared.report.Leaf as leaf
-use Rattle.mpd_explore.specs.declared.report.Limits.{Limits}
+use Rattle.mpd_explore.specs.declared.report.SearchLeaf as leaf
+use Rattle.mpd_explore.specs.declared.report.SearchLimits.{SearchLimits}
 use Rattle.mpd_policy.specs.Walk.{Run, stepped, chosen, runs_of}
 use Rattle.mpd_explore.specs.Sleeping.{put_off, awake_runs, Rules, rules_by, decides_by, walk_with, walk_of}
 use Rattle.mpd_explore.specs.Report.{shown, ended_by, listed, left_out}
@@ -68,7 +68,7 @@ walk_from r zero (c ∷ cs) asleep w = []
 walk_from r (suc n) (c ∷ cs) asleep w = beginning r (walk_from r n) asleep w c cs (r.decides w)
 
 -- the same of the walk that is asked for
-abbrev pub walk_at : Limits → List ℕ → World → List Run
+abbrev pub walk_at : SearchLimits → List ℕ → World → List Run
 walk_at l cs w = walk_from (rules_by l.ends) l.fuel cs [] w
 
 -- ---- whether some run begins so
@@ -95,22 +95,22 @@ Reaches decide (suc n) (c ∷ cs) w = BeginsSo (Reaches decide n) w c cs (decide
 -- ---- a report by its parts
 
 -- what a report has of the runs that begin with these choices
-abbrev pub part : Limits → List ℕ → World → List leaf.Leaf
+abbrev pub part : SearchLimits → List ℕ → World → List leaf.SearchLeaf
 part l cs w = listed l (map shown (walk_at l cs w))
 
 -- whether there are others of these
-abbrev pub part_left : Limits → List ℕ → World → Bool
+abbrev pub part_left : SearchLimits → List ℕ → World → Bool
 part_left l cs w = left_out l (map shown (walk_at l cs w))
 
 -- a leaf of what comes after some choices, told from where these begin
-abbrev pub behind : List ℕ → leaf.Leaf → leaf.Leaf
+abbrev pub behind : List ℕ → leaf.SearchLeaf → leaf.SearchLeaf
 behind choices l = record { choices = choices ++ l.choices; ending = l.ending }
 
 -- the parts of all pieces, joined in order, and where a list ends with the first bad leaf that up to it
-abbrev pub split_report : ℕ → Limits → World → List leaf.Leaf
+abbrev pub split_report : ℕ → SearchLimits → World → List leaf.SearchLeaf
 split_report k l w = ended_by l.until_bad (flat_map (λ cs. part l cs w) (pieces (decides_by l.ends) k l.fuel w))
 
 -- whether some piece has more; where a list ends with the first bad leaf, whether the walk has
-abbrev pub split_more : ℕ → Limits → World → Bool
+abbrev pub split_more : ℕ → SearchLimits → World → Bool
 split_more k l w =
     if l.until_bad then nat_lt (length (split_report k l w)) (length (walk_of l w)) else list_any (λ cs. nat_lt l.runs (length (walk_at l cs w))) (pieces (decides_by l.ends) k l.fuel w)

@@ -6,7 +6,7 @@ use Rattle.mpd_model.specs.declared.decision.Decision.{Decision}
 use Rattle.mpd_model.specs.steps.World.{World}
 use Rattle.mpd_model.specs.steps.Next.{next, fold}
 use Rattle.mpd_model.specs.runs.Trail.{Standing, IsReached, done_steps}
-use Rattle.mpd_core.specs.Run.{first_of}
+use Rattle.mpd_trail.specs.Run.{first_of}
 use Rattle.mpd_policy.specs.declared.ending.Ending.{Ending}
 use Rattle.mpd_policy.specs.Walk.{Run, here, prefixed}
 use Rattle.mpd_explore.specs.Sleeping.{branches_by, awake_by, put_off}

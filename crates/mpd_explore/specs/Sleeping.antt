@@ -14,7 +14,7 @@ use Rattle.mpd_policy.specs.Wide.{wide_decision, sleeps_on}
 use Rattle.mpd_policy.specs.declared.ending.Ending.TheVariants.{Ended}
 pub use Rattle.mpd_policy.specs.Asleep.{same_match, nothing_wakes}
 use Rattle.mpd_policy.specs.Walk.{Run, here, stepped, chosen, runs_of, stopped, walk}
-use Rattle.mpd_explore.specs.declared.report.Limits.{Limits}
+use Rattle.mpd_explore.specs.declared.report.SearchLimits.{SearchLimits}
 
 -- ---- the walk
 
@@ -81,5 +81,5 @@ abbrev pub walk_by : Bool → ℕ → World → List Run
 walk_by false fuel w = walk fuel w
 walk_by true fuel w = sleeping_wide_walk fuel w
 
-abbrev pub walk_of : Limits → World → List Run
+abbrev pub walk_of : SearchLimits → World → List Run
 walk_of l w = walk_by l.ends l.fuel w

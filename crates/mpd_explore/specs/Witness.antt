@@ -1,9 +1,10 @@
--- What a witness is, and what is wrong with what is none.
+-- What a witness is, of a deadlock or of any bad end, and what is wrong with what is none.
 use Rattle.std.specs.Prelude.{◌≡◌, ℕ, suc, List, [], ◌∷◌, ◌++◌, map, Option, Some, None}
 use Rattle.mpd_model.specs.declared.call.Mode.{Mode}
 use Rattle.mpd_model.specs.declared.step.Step.{Step}
 use Rattle.mpd_model.specs.declared.decision.Decision.{Decision}
 use Rattle.mpd_model.specs.declared.outcome.TrappedRank.{TrappedRank}
+use Rattle.mpd_model.specs.declared.outcome.IssuedCall.{IssuedCall}
 use Rattle.mpd_model.specs.declared.outcome.Outcome.{Outcome}
 use Rattle.mpd_model.specs.declared.outcome.Outcome.TheVariants as outcome_is
 use Rattle.mpd_model.specs.script.Program.{Program}
@@ -12,10 +13,11 @@ use Rattle.mpd_model.specs.steps.Next.{next, fold}
 use Rattle.mpd_model.specs.steps.Outcomes.{ids_of, outcome}
 use Rattle.mpd_policy.specs.declared.ending.Ending.{Ending}
 use Rattle.mpd_policy.specs.declared.ending.Ending.TheVariants.{Ended, Cut}
-use Rattle.mpd_explore.specs.declared.report.Leaf as leaf
+use Rattle.mpd_explore.specs.declared.report.SearchLeaf as leaf
 use Rattle.mpd_explore.specs.declared.report.RankTrap.{RankTrap}
 use Rattle.mpd_explore.specs.declared.report.WitnessEnd.{WitnessEnd}
 use Rattle.mpd_explore.specs.declared.report.WitnessEnd.TheVariants.{Deadlock, Trap}
+use Rattle.mpd_explore.specs.declared.report.EndWitness.{EndWitness}
 use Rattle.mpd_explore.specs.declared.report.Witness.{Witness}
 use Rattle.mpd_policy.specs.Walk.{Run, run_by}
 use Rattle.mpd_explore.specs.declared.verifier.WitnessFault.{WitnessFault}
@@ -44,15 +46,24 @@ abbrev pub end_of : Ending → Option WitnessEnd
 end_of Cut = None
 end_of (Ended o) = end_by o
 
--- Its steps lead from here to a deadlock or a trap, which is the one that it says.
-pub record IsWitnessFrom (w : World) (x : Witness) : Type 0 where
+-- A witness of a deadlock or a trap: its steps lead from here to one, which is the one that it says.
+pub record IsEndWitnessFrom (w : World) (x : EndWitness) : Type 0 where
   pub last : World
   pub leads : fold w x.steps ≡ Some last
   pub ends : end_in (outcome last) ≡ Some x.end
 
 -- The same from the start of a script.
-abbrev pub IsWitness : Program → Mode → Witness → Type 0
-IsWitness s mode x = IsWitnessFrom (start s mode) x
+abbrev pub IsEndWitness : Program → Mode → EndWitness → Type 0
+IsEndWitness s mode x = IsEndWitnessFrom (start s mode) x
+
+-- A witness of a deadlock: its steps lead from the start of a script to a deadlock, in which the calls are blocked that it says, whichever
+-- statements issued them.
+pub record IsWitness (s : Program) (mode : Mode) (x : Witness) : Type 0 where
+  pub last : World
+  pub calls : List IssuedCall
+  pub leads : fold (start s mode) x.steps ≡ Some last
+  pub stuck : outcome last ≡ Some (outcome_is.Deadlock calls)
+  pub are_blocked : ids_of calls ≡ x.blocked
 
 -- The first fault: a step that isn't enabled, with its place; else an end that is no deadlock, or no trap, as the witness has it; else
 -- another list.
@@ -75,7 +86,7 @@ HasFault w i (a ∷ more) end e = FaultBy (λ v f. HasFault v (suc i) more end f
 
 abbrev pub WitnessTo : Program → Mode → List Step → Option WitnessEnd → Type 0
 WitnessTo s mode steps None = Unit {0}
-WitnessTo s mode steps (Some end) = IsWitness s mode (record { steps = steps; end = end })
+WitnessTo s mode steps (Some end) = IsEndWitness s mode (record { steps = steps; end = end })
 
 -- where a run ends in a deadlock or with a trap, its steps are a witness of that
 abbrev pub WitnessBy : Program → Mode → List Step → Ending → Type 0
@@ -83,16 +94,16 @@ WitnessBy s mode steps e = WitnessTo s mode steps (end_of e)
 
 -- Its choices tell one run from the state that some steps lead to, which ends as it says; where that is a deadlock or a trap, these steps
 -- and those of the run are a witness of it.
-pub record HasWitness (decide : World → Decision) (s : Program) (mode : Mode) (before : List Step) (n : ℕ) (w : World) (l : leaf.Leaf) : Type 0 where
+pub record HasWitness (decide : World → Decision) (s : Program) (mode : Mode) (before : List Step) (n : ℕ) (w : World) (l : leaf.SearchLeaf) : Type 0 where
   pub run : Run
   pub by : run_by decide n l.choices w ≡ Some run
   pub ending : run.ending ≡ l.ending
   pub witness : WitnessBy s mode (before ++ run.steps) l.ending
 
-abbrev pub witness_to : List Step → Option WitnessEnd → Option Witness
+abbrev pub witness_to : List Step → Option WitnessEnd → Option EndWitness
 witness_to steps None = None
 witness_to steps (Some end) = Some (record { steps = steps; end = end })
 
 -- the witness of a run with these steps that ends so, where that is a deadlock or a trap
-abbrev pub witness_by : List Step → Ending → Option Witness
+abbrev pub witness_by : List Step → Ending → Option EndWitness
 witness_by steps e = witness_to steps (end_of e)

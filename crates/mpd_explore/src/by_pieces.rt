@@ -3,29 +3,29 @@
 ghost use Rattle.std.specs.Prelude.{◌≡◌, ◌+◌, ◌<◌, ◌≤◌, ◌++◌, ◌||◌, ◌&&◌, nat_lt, false, map, drop, IfOk, OnOk, IsErrOf, length, string_bytes};
 ghost use Rattle.std.specs.List.{AllByRecursion};
 ghost use Rattle.mpd_model.specs.runs.Trail.{done_steps};
-ghost use Rattle.mpd_core.specs.DebuggerViews.{AsFound, standing_of};
+ghost use Rattle.mpd_trail.specs.DebuggerViews.{AsFound, standing_of};
 ghost use Rattle.mpd_explore.specs.Report.{any_bad};
 ghost use Rattle.mpd_explore.specs.Sleeping.{decides_by};
 ghost use Rattle.mpd_explore.specs.WitnessTexts.{witness_texts};
 ghost use Rattle.mpd_explore.specs.Pieces.{Reaches, pieces, walk_at, part, part_left, split_report, split_more};
 ghost use Rattle.mpd_explore.specs.Along.{choices_of, have_run, report_of, more_of};
 
-use crate::piece_explorer::explore_at;
-use crate::report::{Limits, Report};
-use crate::splitter::{PIECES_MAX, Piece, SplitFault, split};
+use crate::piece_explorer::explore_at_watched;
+use crate::report::{SearchLimits, SearchReport, Witnesses};
+use crate::splitter::{PIECES_MAX, Piece, SplitFault, split_by};
 use crate::watch::{Unwatched, Watch};
-use mpd_core::Debugger;
 use mpd_model::STEPS_MAX;
 use mpd_policy::decisions_can_be_followed;
+use mpd_trail::Debugger;
 use std::alloc::{AllocError, Global};
 
 /// Adds what was found to a report.
-fn join(report: &mut Report, found: Report) -> Result<(), AllocError>
+fn join(report: &mut SearchReport, found: SearchReport) -> Result<(), AllocError>
     ensures leaves { OnOk result (report.new.leaves.items ≡ report.old.leaves.items ++ found.leaves.items) }
     ensures more { OnOk result (report.new.more ≡ (report.old.more || found.more)) }
     ensures texts { OnOk result (map string_bytes report.new.witnesses.items ≡ map string_bytes report.old.witnesses.items ++ map string_bytes found.witnesses.items) }
 {
-    let Report {
+    let SearchReport {
         mut leaves,
         more,
         mut witnesses,
@@ -42,9 +42,9 @@ fn add_part<W: Watch>(
     alloc: Global,
     debugger: &mut Debugger<'_>,
     piece: &Piece,
-    limits: Limits,
+    limits: SearchLimits,
     watch: &mut W,
-    report: &mut Report,
+    report: &mut SearchReport,
 ) -> Result<bool, AllocError>
     requires clean { length debugger.old.trail.steps ≡ debugger.old.trail.depth }
     requires fits { debugger.old.trail.depth + limits.fuel ≤ STEPS_MAX }
@@ -55,20 +55,20 @@ fn add_part<W: Watch>(
     ensures last { IfOk result (λ last. last ≡ (limits.until_bad && any_bad (part limits piece.now.choices debugger.old.world))) }
     ensures as_found { AsFound (standing_of debugger.old) (standing_of debugger.new) }
 {
-    let found = explore_at(alloc, debugger, &piece.choices.items, limits, watch)?;
+    let found = explore_at_watched(alloc, debugger, &piece.choices.items, limits, watch)?;
     let is_last = limits.ends_with_report(&found);
     join(report, found)?;
     Ok(is_last)
 }
 
 /// The limits of a search for one run alone.
-fn no_leaf(limits: Limits) -> Limits
-    ensures { result ≡ record { runs = 0; fuel = limits.fuel; witnesses = false; until_bad = false; ends = limits.ends } }
+fn no_leaf(limits: SearchLimits) -> SearchLimits
+    ensures { result ≡ record { runs = 0; fuel = limits.fuel; witnesses = Witnesses.OfNone; until_bad = false; ends = limits.ends } }
 {
-    Limits {
+    SearchLimits {
         runs: 0,
         fuel: limits.fuel,
-        witnesses: false,
+        witnesses: Witnesses::OfNone,
         until_bad: false,
         ends: limits.ends,
     }
@@ -79,7 +79,7 @@ fn has_run(
     alloc: Global,
     debugger: &mut Debugger<'_>,
     piece: &Piece,
-    limits: Limits,
+    limits: SearchLimits,
 ) -> Result<bool, AllocError>
     requires clean { length debugger.old.trail.steps ≡ debugger.old.trail.depth }
     requires fits { debugger.old.trail.depth + limits.fuel ≤ STEPS_MAX }
@@ -87,7 +87,7 @@ fn has_run(
     ensures run { IfOk result (λ b. b ≡ nat_lt 0 (length (walk_at limits piece.now.choices debugger.old.world))) }
     ensures as_found { AsFound (standing_of debugger.old) (standing_of debugger.new) }
 {
-    let found = explore_at(
+    let found = explore_at_watched(
         alloc,
         debugger,
         &piece.choices.items,
@@ -102,7 +102,7 @@ fn have_run(
     alloc: Global,
     debugger: &mut Debugger<'_>,
     pieces: &[Piece],
-    limits: Limits,
+    limits: SearchLimits,
 ) -> Result<bool, AllocError>
     requires clean { length debugger.old.trail.steps ≡ debugger.old.trail.depth }
     requires fits { debugger.old.trail.depth + limits.fuel ≤ STEPS_MAX }
@@ -127,7 +127,7 @@ pub fn is_left(
     debugger: &mut Debugger<'_>,
     pieces: &[Piece],
     place: usize,
-    limits: Limits,
+    limits: SearchLimits,
 ) -> Result<bool, AllocError>
     requires clean { length debugger.old.trail.steps ≡ debugger.old.trail.depth }
     requires fits { debugger.old.trail.depth + limits.fuel ≤ STEPS_MAX }
@@ -158,9 +158,9 @@ fn explore_pieces<W: Watch>(
     alloc: Global,
     debugger: &mut Debugger<'_>,
     pieces: &[Piece],
-    limits: Limits,
+    limits: SearchLimits,
     watch: &mut W,
-) -> Result<Report, AllocError>
+) -> Result<SearchReport, AllocError>
     requires clean { length debugger.old.trail.steps ≡ debugger.old.trail.depth }
     requires fits { debugger.old.trail.depth + limits.fuel ≤ STEPS_MAX }
     requires reaches { AllByRecursion (λ cs. Reaches (decides_by limits.ends) limits.fuel cs debugger.old.world) (choices_of pieces.now) }
@@ -171,7 +171,7 @@ fn explore_pieces<W: Watch>(
 {
     decisions_can_be_followed();
     debugger.state_is_reached();
-    let mut report = Report {
+    let mut report = SearchReport {
         leaves: Vec::new(alloc),
         more: false,
         witnesses: Vec::new(alloc),
@@ -197,9 +197,9 @@ pub fn explore_by_pieces<W: Watch>(
     alloc: Global,
     debugger: &mut Debugger<'_>,
     choices: usize,
-    limits: Limits,
+    limits: SearchLimits,
     watch: &mut W,
-) -> Result<Report, SplitFault>
+) -> Result<SearchReport, SplitFault>
     requires clean { length debugger.old.trail.steps ≡ debugger.old.trail.depth }
     requires fits { debugger.old.trail.depth + limits.fuel ≤ STEPS_MAX }
     ensures leaves { IfOk result (λ r. r.leaves.items ≡ split_report choices limits debugger.old.world) }
@@ -209,7 +209,7 @@ pub fn explore_by_pieces<W: Watch>(
     ensures many { IsErrOf result SplitFault.TooManyPieces → PIECES_MAX < length (pieces (decides_by limits.ends) choices limits.fuel debugger.old.world) }
     ensures as_found { AsFound (standing_of debugger.old) (standing_of debugger.new) }
 {
-    match split(alloc, debugger, choices, limits) {
+    match split_by(alloc, debugger, choices, limits) {
         Ok(pieces) => {
             let report = explore_pieces(alloc, debugger, &pieces, limits, watch)?;
             Ok(report)

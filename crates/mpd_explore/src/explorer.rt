@@ -3,22 +3,23 @@
 ghost use Rattle.std.specs.Prelude.{◌≡◌, ◌+◌, ◌<◌, ◌≤◌, ◌⊎◌, true, false, [], ◌∷◌, ◌++◌, if◌then◌else◌, map, IfOk, OnOk, OnErr, IsTrue, length, reverse, string_bytes};
 ghost use Rattle.std.specs.List.{AllByRecursion};
 ghost use Rattle.mpd_model.specs.runs.Trail.{done_steps};
-ghost use Rattle.mpd_core.specs.Run.{first_of};
-ghost use Rattle.mpd_core.specs.DebuggerViews.{AsFound, standing_of};
+ghost use Rattle.mpd_trail.specs.Run.{first_of};
+ghost use Rattle.mpd_trail.specs.DebuggerViews.{AsFound, standing_of};
 ghost use Rattle.mpd_explore.specs.Report.{shown, listed, left_out};
 ghost use Rattle.mpd_explore.specs.Gathered.{FoundLeaf, IsMore, Lists};
 ghost use Rattle.mpd_explore.specs.Witness.{HasWitness, witness_by};
 ghost use Rattle.mpd_explore.specs.WitnessTexts.{behind_number, witness_texts};
+ghost use Rattle.mpd_explore.specs.Asked.{are_asked, asked_text};
 ghost use Rattle.mpd_explore.specs.Sleeping.{awake_by, decides_by, walk_of};
 ghost use Rattle.mpd_explore.specs.Search.{At, Safe, come, picked, search_by};
 
 use crate::print::witness_here;
-use crate::report::{ChoiceList, Ending, Leaf, Limits, Report};
+use crate::report::{ChoiceList, Ending, SearchLeaf, SearchLimits, SearchReport, Witnesses};
 use crate::search::{Bounds, Frontier, Open, advance, seek};
 use crate::watch::Watch;
-use mpd_core::Debugger;
 use mpd_model::{STEPS_MAX, Step, StepList};
 use mpd_policy::{Plain, Schedule, Wide, put_back};
+use mpd_trail::Debugger;
 use std::alloc::{AllocError, Global};
 
 /// The candidates that are taken at the open choices.
@@ -33,11 +34,11 @@ fn choices_here(alloc: Global, stack: &[Open]) -> Result<ChoiceList, AllocError>
 }
 
 /// A leaf that ends so, with the candidates that are taken at the open choices.
-fn leaf_here(alloc: Global, stack: &[Open], ending: Ending) -> Result<Leaf, AllocError>
+fn leaf_here(alloc: Global, stack: &[Open], ending: Ending) -> Result<SearchLeaf, AllocError>
     ensures { IfOk result (λ l. (l.ending ≡ ending) × (l.choices ≡ picked (reverse stack.now))) }
 {
     match choices_here(alloc, stack) {
-        Ok(choices) => Ok(Leaf { choices, ending }),
+        Ok(choices) => Ok(SearchLeaf { choices, ending }),
         Err(fault) => {
             drop(ending);
             Err(fault)
@@ -53,7 +54,7 @@ fn next_leaf<S: Schedule>(
     debugger: &mut Debugger<'_>,
     bounds: Bounds,
     frontier: &mut Frontier,
-) -> Result<Option<Leaf>, AllocError>
+) -> Result<Option<SearchLeaf>, AllocError>
     requires at { At (search_by S.decides S.same S.keeps bounds (first_of debugger.old.trail)) (reverse frontier.old.stack.items) (standing_of debugger.old) }
     requires few { bounds.limit ≤ STEPS_MAX }
     ensures found { IfOk result (λ o. FoundLeaf (search_by S.decides S.same S.keeps bounds (first_of debugger.old.trail)) (reverse frontier.old.stack.items) frontier.old.asleep (standing_of debugger.old) o (reverse frontier.new.stack.items) (standing_of debugger.new)) }
@@ -113,35 +114,36 @@ fn is_left<S: Schedule>(
     is_more(alloc, schedule, debugger, bounds, frontier)
 }
 
-/// Adds the text of the witness of a run that ends here so, if texts are asked for.
+/// Adds the text of the witness of a run that ends here so, if any are asked for: the empty one if
+/// this one isn't.
 fn add_text(
     alloc: Global,
     debugger: &Debugger<'_>,
-    asked: bool,
+    asked: Witnesses,
     ending: &Ending,
     texts: &mut Vec<String>,
 ) -> Result<(), AllocError>
-    ensures { OnOk result (map string_bytes texts.new.items ≡ map string_bytes texts.old.items ++ (if asked then behind_number (witness_by (done_steps debugger.now.trail) ending.now) ∷ [] else [])) }
+    ensures { OnOk result (map string_bytes texts.new.items ≡ map string_bytes texts.old.items ++ (if are_asked asked then asked_text asked ending.now (behind_number (witness_by (done_steps debugger.now.trail) ending.now)) ∷ [] else [])) }
 {
-    if !asked {
+    if !asked.are_asked() {
         return Ok(());
     }
-    let text = witness_here(alloc, debugger, ending)?;
+    let text = witness_here(alloc, debugger, asked, ending)?;
     texts.push(text)?;
     Ok(())
 }
 
-/// Adds a leaf, at which the debugger stands, to a report, and the text of its witness, if texts
-/// are asked for.
+/// Adds a leaf, at which the debugger stands, to a report, and the text of its witness, if any are
+/// asked for.
 fn list_leaf(
     alloc: Global,
     debugger: &Debugger<'_>,
-    asked: bool,
-    leaf: Leaf,
-    report: &mut Report,
+    asked: Witnesses,
+    leaf: SearchLeaf,
+    report: &mut SearchReport,
 ) -> Result<(), AllocError>
     ensures leaves { OnOk result (report.new.leaves.items ≡ report.old.leaves.items ++ leaf ∷ []) }
-    ensures texts { OnOk result (map string_bytes report.new.witnesses.items ≡ map string_bytes report.old.witnesses.items ++ (if asked then behind_number (witness_by (done_steps debugger.now.trail) leaf.ending) ∷ [] else [])) }
+    ensures texts { OnOk result (map string_bytes report.new.witnesses.items ≡ map string_bytes report.old.witnesses.items ++ (if are_asked asked then asked_text asked leaf.ending (behind_number (witness_by (done_steps debugger.now.trail) leaf.ending)) ∷ [] else [])) }
 {
     if let Err(fault) = add_text(alloc, debugger, asked, &leaf.ending, &mut report.witnesses) {
         drop(leaf);
@@ -159,9 +161,9 @@ fn gather<S: Schedule, W: Watch>(
     schedule: &S,
     debugger: &mut Debugger<'_>,
     bounds: Bounds,
-    limits: Limits,
+    limits: SearchLimits,
     frontier: &mut Frontier,
-    report: &mut Report,
+    report: &mut SearchReport,
     watch: &mut W,
 ) -> Result<bool, AllocError>
     requires at { At (search_by S.decides S.same S.keeps bounds (first_of debugger.old.trail)) [] (standing_of debugger.old) }
@@ -201,9 +203,9 @@ fn collect<S: Schedule, W: Watch>(
     debugger: &mut Debugger<'_>,
     bounds: Bounds,
     asleep: StepList,
-    limits: Limits,
+    limits: SearchLimits,
     watch: &mut W,
-) -> Result<Report, AllocError>
+) -> Result<SearchReport, AllocError>
     requires at { At (search_by S.decides S.same S.keeps bounds (first_of debugger.old.trail)) [] (standing_of debugger.old) }
     requires few { bounds.limit ≤ STEPS_MAX }
     ensures lists { IfOk result (λ r. Lists limits (come (search_by S.decides S.same S.keeps bounds (first_of debugger.old.trail)) [] asleep (standing_of debugger.old)) r.leaves.items (map string_bytes r.witnesses.items) r.more) }
@@ -213,7 +215,7 @@ fn collect<S: Schedule, W: Watch>(
         stack: Vec::new(alloc),
         asleep,
     };
-    let mut report = Report {
+    let mut report = SearchReport {
         leaves: Vec::new(alloc),
         more: false,
         witnesses: Vec::new(alloc),
@@ -250,12 +252,12 @@ fn copied(alloc: Global, steps: &[Step]) -> Result<StepList, AllocError>
 }
 
 /// The report that lists no leaf: there are others, since from each state there is a run.
-fn nothing_listed(alloc: Global) -> Report
+fn nothing_listed(alloc: Global) -> SearchReport
     ensures leaves { result.leaves.items ≡ [] }
     ensures more { IsTrue result.more }
     ensures witnesses { result.witnesses.items ≡ [] }
 {
-    Report {
+    SearchReport {
         leaves: Vec::new(alloc),
         more: true,
         witnesses: Vec::new(alloc),
@@ -263,7 +265,7 @@ fn nothing_listed(alloc: Global) -> Report
 }
 
 /// Whether no leaf is asked for, and nothing is asleep.
-fn is_idle(limits: Limits, asleep: &[Step]) -> bool
+fn is_idle(limits: SearchLimits, asleep: &[Step]) -> bool
     ensures idle { result ≡ true → (limits.runs ≡ 0) × (asleep.now ≡ []) }
     ensures busy { result ≡ false → (0 < limits.runs) ⊎ (0 < length asleep.now) }
 {
@@ -278,9 +280,9 @@ fn find<S: Schedule, W: Watch>(
     debugger: &mut Debugger<'_>,
     bounds: Bounds,
     asleep: &[Step],
-    limits: Limits,
+    limits: SearchLimits,
     watch: &mut W,
-) -> Result<Report, AllocError>
+) -> Result<SearchReport, AllocError>
     requires at { At (search_by S.decides S.same S.keeps bounds (first_of debugger.old.trail)) [] (standing_of debugger.old) }
     requires few { bounds.limit ≤ STEPS_MAX }
     ensures lists { IfOk result (λ r. Lists limits (come (search_by S.decides S.same S.keeps bounds (first_of debugger.old.trail)) [] asleep.now (standing_of debugger.old)) r.leaves.items (map string_bytes r.witnesses.items) r.more) }
@@ -308,9 +310,9 @@ pub fn explore_with<S: Schedule, W: Watch>(
     schedule: &S,
     debugger: &mut Debugger<'_>,
     asleep: &[Step],
-    limits: Limits,
+    limits: SearchLimits,
     watch: &mut W,
-) -> Result<Report, AllocError>
+) -> Result<SearchReport, AllocError>
     requires clean { length debugger.old.trail.steps ≡ debugger.old.trail.depth }
     requires fits { debugger.old.trail.depth + limits.fuel ≤ STEPS_MAX }
     ensures leaves { IfOk result (λ r. r.leaves.items ≡ listed limits (map shown (awake_by S.decides S.same S.keeps limits.ends limits.fuel asleep.now debugger.old.world))) }
@@ -342,15 +344,15 @@ pub fn explore_with<S: Schedule, W: Watch>(
 /// from here. The debugger is left as found, also on `Err`, which means that memory was refused;
 /// this happens only if a leaf is asked for. Requires that no step is undone, and that depth and
 /// fuel together are at most 1,000,000 steps. Each leaf has a run, and each deadlock and each trap
-/// a witness, which `witness_of` makes and `verify` accepts. With `witnesses` their texts are made
-/// as the leaves are found. `watch` is told of each leaf as it is found: once, in order, with how
+/// a witness, which `witness_of` makes and `verify_end` accepts; `witnesses` says the texts of which
+/// ones are made as the leaves are found. `watch` is told of each leaf as it is found: once, in order, with how
 /// many there are so far; nothing else depends on it.
-pub fn explore<W: Watch>(
+pub fn explore_watched<W: Watch>(
     alloc: Global,
     debugger: &mut Debugger<'_>,
-    limits: Limits,
+    limits: SearchLimits,
     watch: &mut W,
-) -> Result<Report, AllocError>
+) -> Result<SearchReport, AllocError>
     requires clean { length debugger.old.trail.steps ≡ debugger.old.trail.depth }
     requires fits { debugger.old.trail.depth + limits.fuel ≤ STEPS_MAX }
     ensures leaves { IfOk result (λ r. r.leaves.items ≡ listed limits (map shown (walk_of limits debugger.old.world))) }

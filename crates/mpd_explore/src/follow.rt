@@ -1,7 +1,7 @@
 //! Following choices from a debugger's state.
 
 ghost use Rattle.std.specs.Prelude.{◌≡◌, ◌-◌, ◌<◌, ◌≤◌, IfOk, OnErr, Some, [], length};
-ghost use Rattle.mpd_core.specs.DebuggerViews.{standing_of};
+ghost use Rattle.mpd_trail.specs.DebuggerViews.{standing_of};
 ghost use Rattle.mpd_policy.specs.Walks.{Beyond};
 ghost use Rattle.mpd_explore.specs.Pieces.{Reaches, rules_of};
 ghost use Rattle.mpd_explore.specs.Along.{Going};
@@ -9,9 +9,9 @@ ghost use Rattle.mpd_explore.specs.Slept.{asleep_there, takes_noted, leaves_note
 
 use crate::asleep::asleep_at;
 use crate::sleep::Sleep;
-use mpd_core::Debugger;
 use mpd_model::{STEPS_MAX, Step, StepList};
 use mpd_policy::{Chooser, Schedule, walk};
+use mpd_trail::Debugger;
 use std::alloc::{AllocError, Global};
 
 /// Takes the candidates that some choices name, in order, and notes what is asleep after each, and

@@ -4,6 +4,7 @@
 
 mod asleep;
 pub mod by_pieces;
+pub mod deadlocks;
 mod ends;
 pub mod explorer;
 mod follow;
@@ -21,19 +22,24 @@ pub mod witness;
 
 pub use asleep::{asleep_at, is_asleep};
 pub use by_pieces::{explore_by_pieces, is_left, is_more};
-pub use explorer::{explore, explore_with};
-pub use laws::{
-    each_piece_is_reached, no_choice_is_the_whole, no_more_is_the_whole, pieces_join_to_the_walk,
+pub use deadlocks::{
+    Leaf, Limits, Report, explore, explore_at, print_report, split, with_witnesses,
 };
-pub use piece_explorer::explore_at;
+pub use explorer::{explore_watched, explore_with};
+pub use laws::{
+    a_deadlock_has_a_witness, each_piece_is_reached, no_choice_is_the_whole, no_more_is_the_whole,
+    pieces_join_to_the_walk,
+};
+pub use piece_explorer::explore_at_watched;
 pub use print::{
-    print_report, push_choices, push_leaf_text, push_leaves, push_total, witness_here,
+    print_search, push_choices, push_leaf_text, push_leaves, push_total, witness_here,
 };
 pub use report::{
-    ChoiceList, Ending, Leaf, Limits, RankTrap, RankTrapList, Report, Witness, WitnessEnd,
+    ChoiceList, EndWitness, Ending, RankTrap, RankTrapList, SearchLeaf, SearchLimits, SearchReport,
+    Witness, WitnessEnd, Witnesses,
 };
 pub use same::same_ending;
-pub use splitter::{PIECES_MAX, Piece, SplitFault, split};
-pub use verifier::{WitnessFault, same_trap, verify, verify_from};
+pub use splitter::{PIECES_MAX, Piece, SplitFault, split_by};
+pub use verifier::{WitnessFault, same_trap, verify, verify_end, verify_from};
 pub use watch::{Unwatched, Watch};
 pub use witness::witness_of;

@@ -3,7 +3,7 @@
 ghost use Rattle.std.specs.Prelude.{◌≡◌, ◌+◌, ◌<◌, ◌≤◌, ◌⊎◌, [], false, map, IfOk, OnOk, OnErr, length, string_bytes};
 ghost use Rattle.std.specs.List.{AllByRecursion};
 ghost use Rattle.mpd_model.specs.runs.Trail.{done_steps};
-ghost use Rattle.mpd_core.specs.DebuggerViews.{AsFound, standing_of};
+ghost use Rattle.mpd_trail.specs.DebuggerViews.{AsFound, standing_of};
 ghost use Rattle.mpd_explore.specs.Report.{shown, listed, left_out};
 ghost use Rattle.mpd_explore.specs.Sleeping.{decides_by};
 ghost use Rattle.mpd_explore.specs.Witness.{HasWitness};
@@ -13,15 +13,15 @@ ghost use Rattle.mpd_policy.specs.Walks.{Beyond};
 
 use crate::explorer::explore_with;
 use crate::follow::follow;
-use crate::report::{ChoiceList, Leaf, Limits, Report};
+use crate::report::{ChoiceList, SearchLeaf, SearchLimits, SearchReport};
 use crate::watch::Watch;
-use mpd_core::Debugger;
 use mpd_model::STEPS_MAX;
 use mpd_policy::{Plain, Schedule, Wide, put_back};
+use mpd_trail::Debugger;
 use std::alloc::{AllocError, Global};
 
 /// Puts choices in front of those of a leaf.
-fn put_choices(alloc: Global, leaf: &mut Leaf, choices: &[usize]) -> Result<(), AllocError>
+fn put_choices(alloc: Global, leaf: &mut SearchLeaf, choices: &[usize]) -> Result<(), AllocError>
     ensures { OnOk result (leaf.new ≡ behind choices.now leaf.old) }
 {
     let behind = leaf.choices.items.len();
@@ -34,7 +34,11 @@ fn put_choices(alloc: Global, leaf: &mut Leaf, choices: &[usize]) -> Result<(), 
 
 /// Puts choices in front of those of each leaf. `Err` means that memory was refused, which happens
 /// only if there is a leaf.
-fn put_in_front(alloc: Global, leaves: &mut Vec<Leaf>, choices: &[usize]) -> Result<(), AllocError>
+fn put_in_front(
+    alloc: Global,
+    leaves: &mut Vec<SearchLeaf>,
+    choices: &[usize],
+) -> Result<(), AllocError>
     ensures leaves { OnOk result (leaves.new.items ≡ map (behind choices.now) leaves.old.items) }
     ensures memory { OnErr result (0 < length leaves.old.items) }
 {
@@ -45,12 +49,12 @@ fn put_in_front(alloc: Global, leaves: &mut Vec<Leaf>, choices: &[usize]) -> Res
 }
 
 /// The report of no runs.
-fn nothing_found(alloc: Global) -> Report
+fn nothing_found(alloc: Global) -> SearchReport
     ensures leaves { result.leaves.items ≡ [] }
     ensures more { result.more ≡ false }
     ensures witnesses { result.witnesses.items ≡ [] }
 {
-    Report {
+    SearchReport {
         leaves: Vec::new(alloc),
         more: false,
         witnesses: Vec::new(alloc),
@@ -64,9 +68,9 @@ fn explore_behind<S: Schedule, W: Watch>(
     schedule: &S,
     debugger: &mut Debugger<'_>,
     choices: &[usize],
-    limits: Limits,
+    limits: SearchLimits,
     watch: &mut W,
-) -> Result<Report, AllocError>
+) -> Result<SearchReport, AllocError>
     requires fits { debugger.old.trail.depth + limits.fuel ≤ STEPS_MAX }
     requires reaches { Reaches S.decides limits.fuel choices.now debugger.old.world }
     ensures leaves { IfOk result (λ r. r.leaves.items ≡ listed limits (map shown (walk_from (rules_of S.decides S.same S.keeps limits.ends) limits.fuel choices.now [] debugger.old.world))) }
@@ -84,7 +88,7 @@ fn explore_behind<S: Schedule, W: Watch>(
         let report = nothing_found(alloc);
         return Ok(report);
     }
-    let rest = Limits {
+    let rest = SearchLimits {
         runs: limits.runs,
         fuel: limit - debugger.depth(),
         witnesses: limits.witnesses,
@@ -107,9 +111,9 @@ fn explore_piece<S: Schedule, W: Watch>(
     schedule: &S,
     debugger: &mut Debugger<'_>,
     choices: &[usize],
-    limits: Limits,
+    limits: SearchLimits,
     watch: &mut W,
-) -> Result<Report, AllocError>
+) -> Result<SearchReport, AllocError>
     requires clean { length debugger.old.trail.steps ≡ debugger.old.trail.depth }
     requires fits { debugger.old.trail.depth + limits.fuel ≤ STEPS_MAX }
     requires reaches { Reaches S.decides limits.fuel choices.now debugger.old.world }
@@ -134,13 +138,13 @@ fn explore_piece<S: Schedule, W: Watch>(
 /// undone; and that depth and fuel together are at most 1,000,000 steps. The debugger is left as
 /// found, also on `Err`, which means that memory was refused; this happens only if a leaf is asked
 /// for, or there is a choice. `watch` is told of each leaf as by `explore`, counted from 1.
-pub fn explore_at<W: Watch>(
+pub fn explore_at_watched<W: Watch>(
     alloc: Global,
     debugger: &mut Debugger<'_>,
     choices: &[usize],
-    limits: Limits,
+    limits: SearchLimits,
     watch: &mut W,
-) -> Result<Report, AllocError>
+) -> Result<SearchReport, AllocError>
     requires clean { length debugger.old.trail.steps ≡ debugger.old.trail.depth }
     requires fits { debugger.old.trail.depth + limits.fuel ≤ STEPS_MAX }
     requires reaches { Reaches (decides_by limits.ends) limits.fuel choices.now debugger.old.world }

@@ -10,11 +10,13 @@ ghost use Rattle.mpd_model.specs.texts.Texts.{step_text, steps_text};
 ghost use Rattle.mpd_explore.specs.Witness.{witness_by};
 ghost use Rattle.mpd_explore.specs.ReportText.{choices_text, ending_text, leaf_line, leaf_text, report_text};
 ghost use Rattle.mpd_explore.specs.WitnessTexts.{behind_number, witness_texts};
-ghost use Rattle.mpd_explore.specs.Printed.{numbered, numbered_at, lines_told, told_text, total_line};
+ghost use Rattle.mpd_explore.specs.declared.report.Witnesses as wanted;
+ghost use Rattle.mpd_explore.specs.Asked.{asked_text};
+ghost use Rattle.mpd_explore.specs.Printed.{count_line, numbered, numbered_at, lines_told, told_text, total_line};
 
-use crate::report::{Ending, Leaf, Report, is_bad};
-use mpd_core::Debugger;
+use crate::report::{Ending, SearchLeaf, SearchReport, Witnesses, is_bad};
 use mpd_model::{Step, print_outcome};
+use mpd_trail::Debugger;
 use std::alloc::{AllocError, Global};
 
 /// Adds a number. Most ranks and choices have one digit, which is added as it is.
@@ -46,7 +48,7 @@ pub fn push_choices(out: &mut String, choices: &[usize]) -> Result<(), AllocErro
 }
 
 /// Adds how a run ends.
-fn push_ending(alloc: Global, out: &mut String, ending: &Ending) -> Result<(), AllocError>
+pub(crate) fn push_ending(alloc: Global, out: &mut String, ending: &Ending) -> Result<(), AllocError>
     ensures { OnOk result (string_bytes out.new ≡ string_bytes out.old ++ ending_text ending.now) }
 {
     match ending {
@@ -61,7 +63,7 @@ fn push_ending(alloc: Global, out: &mut String, ending: &Ending) -> Result<(), A
 
 /// Adds the text of a leaf: its choices, and how it ends, as `[0 2] deadlock 0.1 1.0`. `Err` means
 /// that memory was refused.
-pub fn push_leaf_text(alloc: Global, out: &mut String, leaf: &Leaf) -> Result<(), AllocError>
+pub fn push_leaf_text(alloc: Global, out: &mut String, leaf: &SearchLeaf) -> Result<(), AllocError>
     ensures { OnOk result (string_bytes out.new ≡ string_bytes out.old ++ leaf_text leaf.now) }
 {
     out.push('[')?;
@@ -71,7 +73,12 @@ pub fn push_leaf_text(alloc: Global, out: &mut String, leaf: &Leaf) -> Result<()
 }
 
 /// Adds the line of a leaf.
-fn push_leaf(alloc: Global, out: &mut String, number: usize, leaf: &Leaf) -> Result<(), AllocError>
+fn push_leaf(
+    alloc: Global,
+    out: &mut String,
+    number: usize,
+    leaf: &SearchLeaf,
+) -> Result<(), AllocError>
     ensures { OnOk result (string_bytes out.new ≡ string_bytes out.old ++ leaf_line number leaf.now) }
 {
     write!(out, "leaf {number} ")?;
@@ -82,7 +89,7 @@ fn push_leaf(alloc: Global, out: &mut String, number: usize, leaf: &Leaf) -> Res
 
 /// Adds a word and a number. It is inlined, so that the length of the word is known where it is added.
 #[inline(always)]
-fn push_number(out: &mut String, word: &str, number: usize) -> Result<(), AllocError>
+pub(crate) fn push_number(out: &mut String, word: &str, number: usize) -> Result<(), AllocError>
     ensures { OnOk result (string_bytes out.new ≡ string_bytes out.old ++ word.now ++ decimal number) }
 {
     out.push_str(word)?;
@@ -111,7 +118,7 @@ fn push_next(out: &mut String, step: Step) -> Result<(), AllocError>
 }
 
 /// Adds steps: a space before the first, a comma and a space between two.
-fn push_steps(out: &mut String, steps: &[Step]) -> Result<(), AllocError>
+pub(crate) fn push_steps(out: &mut String, steps: &[Step]) -> Result<(), AllocError>
     ensures { OnOk result (string_bytes out.new ≡ string_bytes out.old ++ steps_text steps.now) }
 {
     let Some((first, rest)) = steps.split_first() else {
@@ -141,15 +148,19 @@ fn witness_text(alloc: Global, steps: &[Step], ending: &Ending) -> Result<String
 }
 
 /// The text of the witness of a run that ends so in the debugger's state, as a line of a report has
-/// it after its number, with the line feed; empty if that is neither a deadlock nor a trap. `Err`
-/// means that memory was refused.
+/// it after its number, with the line feed; empty if that isn't asked for, or is neither a deadlock
+/// nor a trap. `Err` means that memory was refused.
 pub fn witness_here(
     alloc: Global,
     debugger: &Debugger<'_>,
+    asked: Witnesses,
     ending: &Ending,
 ) -> Result<String, AllocError>
-    ensures { IfOk result (λ t. string_bytes t ≡ behind_number (witness_by (done_steps debugger.now.trail) ending.now)) }
+    ensures { IfOk result (λ t. string_bytes t ≡ asked_text asked ending.now (behind_number (witness_by (done_steps debugger.now.trail) ending.now))) }
 {
+    if !asked.asks(ending) {
+        return Ok(String::new(alloc));
+    }
     debugger.state_is_reached();
     let depth = debugger.depth();
     let (steps, _) = debugger.steps().split_at(depth);
@@ -183,7 +194,7 @@ pub fn push_leaves(
     alloc: Global,
     out: &mut String,
     first: usize,
-    leaves: &[Leaf],
+    leaves: &[SearchLeaf],
     texts: &[String],
 ) -> Result<(), AllocError>
     requires { first + length leaves.now < 2 ^ 64 }
@@ -198,18 +209,24 @@ pub fn push_leaves(
     Ok(())
 }
 
-/// Adds the last line of a report: how many leaves there are, and whether there are others. `Err`
-/// means that memory was refused.
-pub fn push_total(out: &mut String, report: &Report) -> Result<(), AllocError>
-    ensures { OnOk result (string_bytes out.new ≡ string_bytes out.old ++ total_line report.now.leaves.items report.now.more) }
+/// Adds a line with how many leaves there are, and whether there are others.
+pub(crate) fn push_count(out: &mut String, count: usize, more: bool) -> Result<(), AllocError>
+    ensures { OnOk result (string_bytes out.new ≡ string_bytes out.old ++ count_line count more) }
 {
-    let count = report.leaves.len();
-    let more = if report.more { "yes" } else { "no" };
+    let more = if more { "yes" } else { "no" };
     write!(out, "leaves {count} more {more}\n")
 }
 
+/// Adds the last line of a report: how many leaves there are, and whether there are others. `Err`
+/// means that memory was refused.
+pub fn push_total(out: &mut String, report: &SearchReport) -> Result<(), AllocError>
+    ensures { OnOk result (string_bytes out.new ≡ string_bytes out.old ++ total_line report.now.leaves.items report.now.more) }
+{
+    push_count(out, report.leaves.len(), report.more)
+}
+
 /// A report as text, by the texts that it has.
-fn told(alloc: Global, report: &Report) -> Result<String, AllocError>
+fn told(alloc: Global, report: &SearchReport) -> Result<String, AllocError>
     ensures { IfOk result (λ t. string_bytes t ≡ told_text (map string_bytes report.now.witnesses.items) report.now.leaves.items report.now.more) }
 {
     let mut out = String::new(alloc);
@@ -218,12 +235,12 @@ fn told(alloc: Global, report: &Report) -> Result<String, AllocError>
     Ok(out)
 }
 
-/// A report as text: a line for each leaf; after each deadlock and each trap a line with its
-/// witness, if the report has their texts; last, how many leaves there are, and whether there are
+/// A report as text: a line for each leaf; after it a line with its witness, if the report has a
+/// text of that which isn't empty; last, how many leaves there are, and whether there are
 /// others. `Err` means that memory was refused.
-pub fn print_report(alloc: Global, report: &Report) -> Result<String, AllocError>
+pub fn print_search(alloc: Global, report: &SearchReport) -> Result<String, AllocError>
     ensures told { IfOk result (λ t. string_bytes t ≡ told_text (map string_bytes report.now.witnesses.items) report.now.leaves.items report.now.more) }
-    ensures text { (decide : World → Decision) (asked : Bool) (before : List Step) (fuel : ℕ) (w : World) → map string_bytes report.now.witnesses.items ≡ witness_texts decide asked before fuel w report.now.leaves.items → IfOk result (λ t. string_bytes t ≡ report_text decide asked before fuel w report.now.leaves.items report.now.more) }
+    ensures text { (decide : World → Decision) (asked : wanted.Witnesses) (before : List Step) (fuel : ℕ) (w : World) → map string_bytes report.now.witnesses.items ≡ witness_texts decide asked before fuel w report.now.leaves.items → IfOk result (λ t. string_bytes t ≡ report_text decide asked before fuel w report.now.leaves.items report.now.more) }
 {
     told(alloc, report)
 }

@@ -2,20 +2,56 @@
 
 ghost use Rattle.std.specs.Prelude.{◌≡◌, ◌&&◌};
 ghost use Rattle.mpd_explore.specs.Report.{is_bad, any_bad};
+ghost use Rattle.mpd_explore.specs.Asked.{are_asked, asks};
 
 use mpd_model::{CallList, Outcome, StepList, Trap};
 pub use mpd_policy::Ending;
 use std::marker::Model;
 
+/// Of which leaves the witnesses are wanted.
+#[derive(Clone, Copy)]
+pub enum Witnesses {
+    /// Of none.
+    OfNone,
+    /// Of deadlocks.
+    OfDeadlocks,
+    /// Of deadlocks and traps.
+    OfAll,
+}
+
+impl Witnesses {
+    /// Whether those of any are.
+    pub fn are_asked(self) -> bool
+        ensures { result ≡ are_asked self }
+    {
+        match self {
+            Witnesses::OfNone => false,
+            Witnesses::OfDeadlocks => true,
+            Witnesses::OfAll => true,
+        }
+    }
+
+    /// Whether that of a run is which ends so.
+    pub fn asks(self, ending: &Ending) -> bool
+        ensures { result ≡ asks self ending.now }
+    {
+        match self {
+            Witnesses::OfNone => false,
+            Witnesses::OfDeadlocks => matches!(ending, Ending::Ended(Outcome::Deadlock(_))),
+            Witnesses::OfAll => true,
+        }
+    }
+}
+
 /// How far an exploration goes, and what is listed.
 #[derive(Clone, Copy)]
-pub struct Limits {
+pub struct SearchLimits {
     /// How many leaves are listed at most.
     pub runs: usize,
     /// How many steps a run has at most.
     pub fuel: usize,
-    /// Whether the witnesses of deadlocks and traps are wanted.
-    pub witnesses: bool,
+    /// Of which leaves the witnesses are wanted.
+    pub witnesses: Witnesses,
     /// Whether the list ends with the first leaf that is a deadlock or a trap.
     pub until_bad: bool,
     /// Whether the ends are looked for: along the wide walk, and of runs that differ only in the order of steps that don't conflict, one
@@ -39,7 +75,7 @@ impl Model for ChoiceList {
 
 /// A run: the candidates that it takes at its choices, and how it ends. Its steps follow from its choices, and are not kept.
 #[derive(Drop)]
-pub struct Leaf {
+pub struct SearchLeaf {
     pub choices: ChoiceList,
     pub ending: Ending,
 }
@@ -56,7 +92,7 @@ pub(crate) fn is_bad(ending: &Ending) -> bool
     }
 }
 
-impl Leaf {
+impl SearchLeaf {
     /// Whether the run of this leaf ends in a deadlock or with a trap.
     pub fn is_bad(&self) -> bool
         ensures { result ≡ is_bad self.now.ending }
@@ -67,17 +103,17 @@ impl Leaf {
 
 /// The first leaves, in the order of their choices, and whether there are others that aren't listed.
 #[derive(Drop)]
-pub struct Report {
-    pub leaves: Vec<Leaf>,
+pub struct SearchReport {
+    pub leaves: Vec<SearchLeaf>,
     pub more: bool,
-    /// If witnesses are wanted, a text for each leaf, in order: for a deadlock or a trap what the
-    /// line of its witness has after the number, with the line feed; for any other leaf the empty
-    /// text. Else there are none.
+    /// If witnesses are wanted, a text for each leaf, in order: for a leaf whose witness is wanted,
+    /// and which has one, what its line has after the number, with the line feed; for any other leaf
+    /// the empty text. Else there are none.
     pub witnesses: Vec<String>,
 }
 
 /// Whether one of some leaves is a deadlock or a trap.
-fn any_bad(leaves: &[Leaf]) -> bool
+fn any_bad(leaves: &[SearchLeaf]) -> bool
     ensures { result ≡ any_bad leaves.now }
 {
     for leaf in leaves {
@@ -88,7 +124,7 @@ fn any_bad(leaves: &[Leaf]) -> bool
     false
 }
 
-impl Report {
+impl SearchReport {
     /// Whether the run of one of its leaves ends in a deadlock or with a trap.
     pub fn has_bad(&self) -> bool
         ensures { result ≡ any_bad self.now.leaves.items }
@@ -97,10 +133,10 @@ impl Report {
     }
 }
 
-impl Limits {
+impl SearchLimits {
     /// Whether a list ends with this leaf: lists end with the first deadlock or trap (`until_bad`), and
     /// this leaf is one.
-    pub fn ends_with(self, leaf: &Leaf) -> bool
+    pub fn ends_with(self, leaf: &SearchLeaf) -> bool
         ensures { result ≡ (self.until_bad && is_bad leaf.now.ending) }
     {
         self.until_bad && leaf.is_bad()
@@ -108,7 +144,7 @@ impl Limits {
 
     /// Whether a list of reports ends with this one: lists end with the first deadlock or trap
     /// (`until_bad`), and this report has one.
-    pub fn ends_with_report(self, report: &Report) -> bool
+    pub fn ends_with_report(self, report: &SearchReport) -> bool
         ensures { result ≡ (self.until_bad && any_bad report.now.leaves.items) }
     {
         self.until_bad && report.has_bad()
@@ -146,9 +182,16 @@ pub enum WitnessEnd {
     Trap(RankTrapList),
 }
 
-/// Steps from the start that lead to a deadlock or a trap, and to which one.
+/// Steps from the start that lead to a deadlock, and the calls that are blocked in it, by rank.
 #[derive(Drop)]
 pub struct Witness {
+    pub steps: StepList,
+    pub blocked: CallList,
+}
+
+/// Steps from the start that lead to a deadlock or a trap, and to which one.
+#[derive(Drop)]
+pub struct EndWitness {
     pub steps: StepList,
     pub end: WitnessEnd,
 }

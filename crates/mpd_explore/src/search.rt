@@ -2,15 +2,15 @@
 
 ghost use Rattle.std.specs.Prelude.{◌≡◌, ◌+◌, ◌<◌, ◌≤◌, [], ◌∷◌, IfOk, OnOk, length, take, reverse};
 ghost use Rattle.mpd_model.specs.runs.Trail.{done_steps, gone_back, IsReached};
-ghost use Rattle.mpd_core.specs.Run.{first_of};
-ghost use Rattle.mpd_core.specs.DebuggerViews.{standing_of};
+ghost use Rattle.mpd_trail.specs.Run.{first_of};
+ghost use Rattle.mpd_trail.specs.DebuggerViews.{standing_of};
 ghost use Rattle.mpd_explore.specs.Search.{At, Tried, Stopped, Advanced, Found, Safe, search_by, takes_awake, leaves_asleep, passes_on};
 
 use crate::asleep::{asleep_at, first_awake};
 use crate::report::Ending;
-use mpd_core::Debugger;
 use mpd_model::{STEPS_MAX, Step, StepList};
 use mpd_policy::{Chooser, Schedule, ending_of, walk};
+use mpd_trail::Debugger;
 use std::alloc::{AllocError, Global};
 use std::mem;
 

@@ -5,9 +5,9 @@ ghost use Rattle.std.specs.Prelude.{◌≡◌, ◌||◌, [], false};
 ghost use Rattle.std.specs.List.{list_any};
 
 use crate::asleep::is_asleep;
-use mpd_core::Debugger;
 use mpd_model::{Step, StepList};
 use mpd_policy::Schedule;
+use mpd_trail::Debugger;
 use std::alloc::Global;
 
 /// The steps that are asleep, and whether a step was taken that was asleep: then no run goes there.

@@ -2,7 +2,7 @@
 
 ghost use Rattle.std.specs.Prelude.{◌≡◌, ◌+◌, ◌-◌, ◌<◌, ◌≤◌, ◌++◌, ◌∷◌, ◌||◌, [], false, map, length, IfOk, OnOk, IsErrOf};
 ghost use Rattle.std.specs.List.{AllByRecursion, range_with_len};
-ghost use Rattle.mpd_core.specs.DebuggerViews.{AsFound, standing_of};
+ghost use Rattle.mpd_trail.specs.DebuggerViews.{AsFound, standing_of};
 ghost use Rattle.mpd_explore.specs.Sleeping.{decides_by};
 ghost use Rattle.mpd_explore.specs.Pieces.{Reaches, pieces, numbered};
 ghost use Rattle.mpd_policy.specs.Walks.{Beyond};
@@ -10,10 +10,10 @@ ghost use Rattle.mpd_explore.specs.Along.{Looked, Adds, counted, longer, all_lon
 ghost use Rattle.mpd_explore.specs.PieceFaults.{split_fault_number, split_fault_name};
 
 use crate::follow::follow;
-use crate::report::{ChoiceList, Limits};
-use mpd_core::Debugger;
+use crate::report::{ChoiceList, SearchLimits};
 use mpd_model::{Decision, STEPS_MAX};
 use mpd_policy::{Plain, Schedule, Wide, put_back};
+use mpd_trail::Debugger;
 use std::alloc::{AllocError, Global};
 use std::error::Error;
 use std::fmt;
@@ -334,7 +334,7 @@ fn first_piece(alloc: Global) -> Result<Vec<Piece>, SplitFault>
 }
 
 /// The runs from here along a schedule, cut into pieces.
-fn split_by<S: Schedule>(
+fn split_along<S: Schedule>(
     alloc: Global,
     schedule: &S,
     debugger: &mut Debugger<'_>,
@@ -371,11 +371,11 @@ fn split_by<S: Schedule>(
 /// no step is undone, and that depth and fuel together are at most 1,000,000 steps. Refused if
 /// there are more than 1,024 pieces (31), or if memory is refused. The debugger is left as found,
 /// also on a refusal.
-pub fn split(
+pub fn split_by(
     alloc: Global,
     debugger: &mut Debugger<'_>,
     choices: usize,
-    limits: Limits,
+    limits: SearchLimits,
 ) -> Result<Vec<Piece>, SplitFault>
     requires clean { length debugger.old.trail.steps ≡ debugger.old.trail.depth }
     requires fits { debugger.old.trail.depth + limits.fuel ≤ STEPS_MAX }
@@ -385,7 +385,7 @@ pub fn split(
     ensures as_found { AsFound (standing_of debugger.old) (standing_of debugger.new) }
 {
     if limits.ends {
-        return split_by(alloc, &Wide, debugger, choices, limits.fuel);
+        return split_along(alloc, &Wide, debugger, choices, limits.fuel);
     }
-    split_by(alloc, &Plain, debugger, choices, limits.fuel)
+    split_along(alloc, &Plain, debugger, choices, limits.fuel)
 }

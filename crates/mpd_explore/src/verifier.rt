@@ -7,11 +7,11 @@ ghost use Rattle.mpd_model.specs.steps.Next.{next, fold};
 ghost use Rattle.mpd_model.specs.steps.Outcomes.{outcome};
 ghost use Rattle.mpd_core.specs.Listed.{listed};
 ghost use Rattle.mpd_explore.specs.Stops.{StopsAt, IsLeft, WantsMemory};
-ghost use Rattle.mpd_explore.specs.Witness.{IsWitness, IsWitnessFrom, HasFault, FaultAtEnd, rank_trap, end_in};
+ghost use Rattle.mpd_explore.specs.Witness.{IsWitness, IsEndWitness, IsEndWitnessFrom, HasFault, FaultAtEnd, rank_trap, end_in};
 ghost use Rattle.mpd_explore.specs.Traps.{trap_eq, is_told};
 ghost use Rattle.mpd_explore.specs.Faults.{witness_fault_number, witness_fault_name};
 
-use crate::report::{RankTrap, Witness, WitnessEnd};
+use crate::report::{EndWitness, RankTrap, Witness, WitnessEnd};
 use mpd_code::Code;
 use mpd_core::{Core, StepFault};
 use mpd_model::{CallId, Mode, Outcome, Step, Trap, TrappedRank};
@@ -24,7 +24,7 @@ use std::fmt;
 pub enum WitnessFault {
     /// The step at this place, from 0, is not enabled there.
     NoSuchStep(usize),
-    /// The steps don't lead to a deadlock, or, if the witness says so, to a trap.
+    /// The steps don't lead to a deadlock, or, if an `EndWitness` says so, to a trap.
     NotStuck,
     /// Other calls are blocked in that deadlock, or other ranks trapped, or trapped otherwise.
     WrongBlocked,
@@ -106,6 +106,18 @@ fn are_told(found: &[TrappedRank], told: &[RankTrap]) -> bool
     true
 }
 
+/// Whether the calls that are blocked in a deadlock are those that a witness says.
+fn check_blocked(calls: &[CallId], blocked: &[CallId]) -> Result<(), WitnessFault>
+    ensures ok { OnOk result (calls.now ≡ blocked.now) }
+    ensures fault { IfErr result (λ e. (e ≡ WitnessFault.WrongBlocked) × (calls.now ≢ blocked.now)) }
+{
+    if is_same(calls, blocked) {
+        Ok(())
+    } else {
+        Err(WitnessFault::WrongBlocked)
+    }
+}
+
 /// Whether a witness says that these calls are blocked in a deadlock.
 fn check_calls(calls: &[CallId], end: &WitnessEnd) -> Result<(), WitnessFault>
     ensures ok { OnOk result (end.now ≡ WitnessEnd.Deadlock calls.now) }
@@ -113,13 +125,7 @@ fn check_calls(calls: &[CallId], end: &WitnessEnd) -> Result<(), WitnessFault>
     ensures no_memory { IfErr result (λ e. e ≢ WitnessFault.Memory) }
 {
     match end {
-        WitnessEnd::Deadlock(blocked) => {
-            if is_same(calls, &blocked.items) {
-                Ok(())
-            } else {
-                Err(WitnessFault::WrongBlocked)
-            }
-        }
+        WitnessEnd::Deadlock(blocked) => check_blocked(calls, &blocked.items),
         WitnessEnd::Trap(_) => Err(WitnessFault::NotStuck),
     }
 }
@@ -212,18 +218,18 @@ fn take_steps(core: &mut Core<'_>, steps: &[Step]) -> Result<(), WitnessFault>
     Ok(())
 }
 
-/// The same as `verify`, from the state of a core, which is left where the steps have led: after
-/// those before the one that isn't enabled (32), else after all. `Memory` comes only if the next
+/// Checks a witness of a deadlock or a trap from the state of a core, which is left where the steps
+/// have led: after those before the one that isn't enabled (32), else after all. `Memory` comes only if the next
 /// step there is one that the relation of steps has, or if none is left and the outcome lists
 /// something.
 pub fn verify_from(
     alloc: Global,
     core: &mut Core<'_>,
-    witness: &Witness,
+    witness: &EndWitness,
 ) -> Result<(), WitnessFault>
     ensures ok { OnOk result ((fold core.old.world witness.now.steps ≡ Some core.new.world) × (end_in (outcome core.new.world) ≡ Some witness.now.end)) }
     ensures fault { IfErr result (λ e. e ≢ WitnessFault.Memory → HasFault core.old.world 0 witness.now.steps witness.now.end e) }
-    ensures accepted { IsWitnessFrom core.old.world witness.now → IfErr result (λ e. e ≡ WitnessFault.Memory) }
+    ensures accepted { IsEndWitnessFrom core.old.world witness.now → IfErr result (λ e. e ≡ WitnessFault.Memory) }
     ensures memory { IsErrOf result WitnessFault.Memory → WantsMemory core.old.world witness.now.steps core.new.world }
     ensures left { IfErr result (IsLeft core.old.world witness.now.steps core.new.world) }
 {
@@ -231,18 +237,85 @@ pub fn verify_from(
     check_end(alloc, core, &witness.end)
 }
 
-/// Checks a witness (docs/DEFINITIONS.md, "Witnesses"): its steps are taken from the start, and
+/// The same from the start of a script (docs/DEFINITIONS.md, "Witnesses"): the steps are taken, and
 /// none is taken back. Refused for the first step that is not enabled in its place (32); else if
 /// the end is no deadlock, or no trap although the witness says so (33); else if other calls are
 /// blocked in it, or other ranks trapped, or trapped otherwise (34). `Memory` means that memory was
 /// refused, for the start or where `verify_from` says.
-pub fn verify(alloc: Global, code: &Code, mode: Mode, witness: &Witness) -> Result<(), WitnessFault>
-    ensures ok { OnOk result (IsWitness code.now.program mode witness.now) }
+pub fn verify_end(
+    alloc: Global,
+    code: &Code,
+    mode: Mode,
+    witness: &EndWitness,
+) -> Result<(), WitnessFault>
+    ensures ok { OnOk result (IsEndWitness code.now.program mode witness.now) }
     ensures fault { IfErr result (λ e. e ≢ WitnessFault.Memory → HasFault (start code.now.program mode) 0 witness.now.steps witness.now.end e) }
-    ensures accepted { IsWitness code.now.program mode witness.now → IfErr result (λ e. e ≡ WitnessFault.Memory) }
+    ensures accepted { IsEndWitness code.now.program mode witness.now → IfErr result (λ e. e ≡ WitnessFault.Memory) }
 {
     let Ok(mut core) = Core::start(alloc, code, mode) else {
         return Err(WitnessFault::Memory);
     };
     verify_from(alloc, &mut core, witness)
+}
+
+/// Whether a run that has this outcome, or none, has come to a deadlock in which these calls are
+/// blocked.
+fn check_deadlock(
+    alloc: Global,
+    outcome: &Option<Outcome>,
+    blocked: &[CallId],
+) -> Result<(), WitnessFault>
+    ensures ok { OnOk result (end_in outcome.now ≡ Some (WitnessEnd.Deadlock blocked.now)) }
+    ensures fault { IfErr result (λ e. e ≢ WitnessFault.Memory → FaultAtEnd (end_in outcome.now) (WitnessEnd.Deadlock blocked.now) e) }
+{
+    match outcome {
+        Some(Outcome::Deadlock(calls)) => {
+            let Ok(ids) = calls.ids(alloc) else {
+                return Err(WitnessFault::Memory);
+            };
+            check_blocked(&ids.items, blocked)
+        }
+        Some(Outcome::Done | Outcome::Leftovers(_) | Outcome::Trap(_)) => {
+            Err(WitnessFault::NotStuck)
+        }
+        None => Err(WitnessFault::NotStuck),
+    }
+}
+
+/// Whether a state is a deadlock in which these calls are blocked.
+fn check_stuck(alloc: Global, core: &Core<'_>, blocked: &[CallId]) -> Result<(), WitnessFault>
+    ensures ok { OnOk result (end_in (outcome core.now.world) ≡ Some (WitnessEnd.Deadlock blocked.now)) }
+    ensures fault { IfErr result (λ e. e ≢ WitnessFault.Memory → FaultAtEnd (end_in (outcome core.now.world)) (WitnessEnd.Deadlock blocked.now) e) }
+{
+    let outcome = match core.outcome(alloc) {
+        Ok(outcome) => outcome,
+        Err(_) => return Err(WitnessFault::Memory),
+    };
+    let checked = check_deadlock(alloc, &outcome, blocked);
+    drop(outcome);
+    checked
+}
+
+/// The same as `verify`, from the state of a core.
+fn verify_deadlock(alloc: Global, core: &mut Core<'_>, told: &Witness) -> Result<(), WitnessFault>
+    ensures ok { OnOk result ((fold core.old.world told.now.steps ≡ Some core.new.world) × (end_in (outcome core.new.world) ≡ Some (WitnessEnd.Deadlock told.now.blocked))) }
+    ensures fault { IfErr result (λ e. e ≢ WitnessFault.Memory → HasFault core.old.world 0 told.now.steps (WitnessEnd.Deadlock told.now.blocked) e) }
+{
+    take_steps(core, &told.steps.items)?;
+    check_stuck(alloc, core, &told.blocked.items)
+}
+
+/// Checks a witness of a deadlock (docs/DEFINITIONS.md, "Witnesses"): its steps are taken from the
+/// start, and none is taken back. Refused for the first step that is not enabled in its place (32);
+/// else if the end is no deadlock (33), as where ranks are trapped; else if other calls are blocked
+/// in it (34). `Memory` means that memory was refused.
+pub fn verify(alloc: Global, code: &Code, mode: Mode, witness: &Witness) -> Result<(), WitnessFault>
+    ensures ok { OnOk result (IsWitness code.now.program mode witness.now) }
+    ensures fault { IfErr result (λ e. e ≢ WitnessFault.Memory → HasFault (start code.now.program mode) 0 witness.now.steps (WitnessEnd.Deadlock witness.now.blocked) e) }
+    ensures accepted { IsWitness code.now.program mode witness.now → IfErr result (λ e. e ≡ WitnessFault.Memory) }
+{
+    let Ok(mut core) = Core::start(alloc, code, mode) else {
+        return Err(WitnessFault::Memory);
+    };
+    verify_deadlock(alloc, &mut core, witness)
 }

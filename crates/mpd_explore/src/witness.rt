@@ -2,16 +2,16 @@
 
 ghost use Rattle.std.specs.Prelude.{◌≡◌, ◌+◌, ◌≤◌, ◌++◌, IfOk, OnErr, IsSome, length};
 ghost use Rattle.mpd_model.specs.runs.Trail.{done_steps};
-ghost use Rattle.mpd_core.specs.DebuggerViews.{AsFound, standing_of};
+ghost use Rattle.mpd_trail.specs.DebuggerViews.{AsFound, standing_of};
 ghost use Rattle.mpd_policy.specs.Walk.{run_by, steps_by};
 ghost use Rattle.mpd_policy.specs.Walks.{Beyond};
 ghost use Rattle.mpd_explore.specs.Witness.{witness_by, end_of};
 
 use crate::ends::end_of;
-use crate::report::{Leaf, Witness};
-use mpd_core::Debugger;
+use crate::report::{EndWitness, SearchLeaf};
 use mpd_model::{STEPS_MAX, StepList};
 use mpd_policy::{Schedule, follow, put_back};
+use mpd_trail::Debugger;
 use std::alloc::{AllocError, Global};
 
 /// The steps that are not undone.
@@ -44,7 +44,7 @@ fn retrace<S: Schedule>(
 }
 
 /// The same, and the debugger is left as found.
-fn retraced<S: Schedule>(
+pub(crate) fn retraced<S: Schedule>(
     alloc: Global,
     schedule: &S,
     debugger: &mut Debugger<'_>,
@@ -73,8 +73,8 @@ pub fn witness_of<S: Schedule>(
     schedule: &S,
     debugger: &mut Debugger<'_>,
     fuel: usize,
-    leaf: &Leaf,
-) -> Result<Option<Witness>, AllocError>
+    leaf: &SearchLeaf,
+) -> Result<Option<EndWitness>, AllocError>
     requires clean { length debugger.old.trail.steps ≡ debugger.old.trail.depth }
     requires fits { debugger.old.trail.depth + fuel ≤ STEPS_MAX }
     requires listed { IsSome (run_by S.decides fuel leaf.now.choices debugger.old.world) }
@@ -87,7 +87,7 @@ pub fn witness_of<S: Schedule>(
         return Ok(None);
     };
     match retraced(alloc, schedule, debugger, fuel, &leaf.choices.items) {
-        Ok(steps) => Ok(Some(Witness { steps, end })),
+        Ok(steps) => Ok(Some(EndWitness { steps, end })),
         Err(fault) => {
             drop(end);
             Err(fault)

@@ -1,10 +1,10 @@
 -- What is made of a byte, and of many.
 use Rattle.std.proofs.Common.{◌≡◌, ℕ, zero, suc, ◌+◌, ◌<◌, ◌≤◌, Bool, true, false, List, [], ◌∷◌, ◌++◌, length, get_or, take, drop, Option, Result, Ok, Err, refl, ap, sym, subst, ◌∙◌, arith, append_assoc, append-nil, add-one}
 use Rattle.std.proofs.lemmas.List.{take-append-drop, drop_more, take_all}
-use Rattle.mpd_lines.specs.Seen.{SinkSeen}
+use Rattle.mpd_model.specs.devices.Seen.{SinkSeen}
 use Rattle.mpd_lines.specs.Telling.{Tells, BreaksOff}
 use Rattle.mpd_lines.specs.Gathering.{Spoken}
-use Rattle.mpd_lines.specs.declared.device.DeviceFault.{DeviceFault}
+use Rattle.mpd_model.specs.declared.device.DeviceFault.{DeviceFault}
 use Rattle.mpd_lines.specs.declared.engine.EngineFault.TheVariants.{ReadFailed, WriteFailed, TooManyTurns, Memory}
 use Rattle.mpd_lines.proofs.SentLaws.{appends_none}
 use Rattle.mpd_lines.proofs.TellingLaws.{tells_append, breaks_told}

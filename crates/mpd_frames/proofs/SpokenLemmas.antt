@@ -1,8 +1,8 @@
 -- An answer that is written.
 use Rattle.std.proofs.Common.{◌≡◌, ℕ, Bool, false, List, [], ◌∷◌, ◌++◌, Result, Ok, Err, refl, arith}
 use Rattle.std.specs.List.{flat_map}
-use Rattle.mpd_lines.specs.Seen.{SinkSeen}
-use Rattle.mpd_lines.specs.declared.device.DeviceFault.{DeviceFault}
+use Rattle.mpd_model.specs.devices.Seen.{SinkSeen}
+use Rattle.mpd_model.specs.declared.device.DeviceFault.{DeviceFault}
 use Rattle.mpd_lines.specs.Gathering.{Written, Spoken}
 use Rattle.mpd_lines.proofs.TellingLaws.{says_one, breaks_one}
 use Rattle.mpd_frames.specs.Frame.{frame_text}

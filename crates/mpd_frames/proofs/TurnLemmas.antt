@@ -2,10 +2,10 @@
 use Rattle.std.proofs.Common.{◌≡◌, ℕ, zero, suc, ◌+◌, ◌<◌, ◌≤◌, Bool, false, inl, inr, List, [], ◌++◌, length, Option, Some, None, Result, Ok, Err, refl, ap, sym, subst, ◌∙◌, arith, length-append, append-nil}
 use Rattle.std.proofs.KnownBytes.{Consumes-nil, Consumes-trans, Consumes-kept}
 use Rattle.std.specs.Io.KnownBytes.{Consumes}
-use Rattle.mpd_lines.specs.Seen.{SourceSeen, SinkSeen}
+use Rattle.mpd_model.specs.devices.Seen.{SourceSeen, SinkSeen}
 use Rattle.mpd_lines.specs.declared.engine.EngineFault.TheVariants.{ReadFailed, WriteFailed, TooManyTurns, Memory}
-use Rattle.mpd_lines.specs.Ends.{ends_of}
-use Rattle.mpd_lines.specs.declared.device.DeviceFault.{DeviceFault}
+use Rattle.mpd_model.specs.devices.Ends.{ends_of}
+use Rattle.mpd_model.specs.declared.device.DeviceFault.{DeviceFault}
 use Rattle.mpd_frames.specs.FaultWords.{failed_reads, failed_writes}
 use Rattle.mpd_frames.specs.Frames.{IsPartial, IsBegun}
 use Rattle.mpd_frames.specs.Reading.{Held, held_bytes, nothing_held, Holds, HoldsBy}

@@ -1,6 +1,6 @@
 -- What was made of some bytes: which frames were answered, and what is left.
 use Rattle.std.specs.Prelude.{◌≡◌, ℕ, ◌+◌, Bool, true, false, List, ◌++◌, Result, Ok, Err}
-use Rattle.mpd_lines.specs.Seen.{SinkSeen}
+use Rattle.mpd_model.specs.devices.Seen.{SinkSeen}
 use Rattle.mpd_lines.specs.declared.engine.EngineFault.TheVariants.{ReadFailed, WriteFailed, TooManyTurns, Memory}
 use Rattle.mpd_frames.specs.Frames.{IsFaulty, IsUnkept}
 use Rattle.mpd_frames.specs.Answered.{Told, BrokenOff}

@@ -1,7 +1,7 @@
 -- What one read and the answers to it have brought, and many of them.
 use Rattle.std.specs.Prelude.{◌≡◌, ℕ, ◌+◌, ◌*◌, ◌<◌, ◌≤◌, Bool, List, [], length, Result, Ok, Err}
 use Rattle.std.specs.Io.KnownBytes.{Consumes, IsAtEnd, Keeps}
-use Rattle.mpd_lines.specs.Seen.{SourceSeen, SinkSeen}
+use Rattle.mpd_model.specs.devices.Seen.{SourceSeen, SinkSeen}
 use Rattle.mpd_lines.specs.declared.engine.EngineFault.TheVariants.{ReadFailed}
 use Rattle.mpd_frames.specs.FaultWords.{failed_reads, failed_writes}
 use Rattle.mpd_frames.specs.Reading.{Held, held_bytes}

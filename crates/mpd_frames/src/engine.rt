@@ -12,8 +12,8 @@ use crate::desk::FrameDesk;
 use crate::fault::StreamFault;
 use crate::outbox::Outbox;
 use crate::reader::{Added, Reader};
-use mpd_lines::{EngineFault, READ_MAX, Sink, Source};
-use mpd_model::READS_MAX;
+use mpd_lines::{EngineFault, READ_MAX};
+use mpd_model::{READS_MAX, Sink, Source};
 use std::alloc::Global;
 
 /// Why a session has ended without a fault.

@@ -5,7 +5,8 @@ ghost use Rattle.mpd_frames.specs.Answered.{Answers};
 
 use crate::desk::FrameDesk;
 use crate::limits::{BODY_MAX, FRAME_ROOM};
-use mpd_lines::{DeviceFault, Sink, write_all};
+use mpd_lines::write_all;
+use mpd_model::{DeviceFault, Sink};
 use std::alloc::{AllocError, Global};
 use std::marker::Model;
 

@@ -1,7 +1,7 @@
 -- Answers that are gathered, line after line.
 use Rattle.std.proofs.Common.{◌≡◌, ℕ, ◌+◌, ◌<◌, List, [], ◌∷◌, ◌++◌, length, get_or, drop, drop-cons, add-one, Option, Result, Ok, Err, refl, ap, sym, subst, ◌∙◌, append_assoc, append-nil}
-use Rattle.mpd_lines.specs.Seen.{SinkSeen}
-use Rattle.mpd_lines.specs.declared.device.DeviceFault.{DeviceFault}
+use Rattle.mpd_model.specs.devices.Seen.{SinkSeen}
+use Rattle.mpd_model.specs.declared.device.DeviceFault.{DeviceFault}
 use Rattle.mpd_lines.specs.Forward.{ended_from, part_from}
 use Rattle.mpd_lines.specs.Gathering.{Gathers, Gathered, Relieved, Written, Fed}
 use Rattle.mpd_lines.proofs.SentLaws.{appends_none, appends_append}

@@ -10,5 +10,4 @@ pub mod FoldLemmas
 pub mod WordLemmas
 pub mod ShortLemmas
 pub mod CutLemmas
-pub mod KeepLaws
 pub mod EchoLaws

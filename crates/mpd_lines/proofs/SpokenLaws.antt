@@ -1,7 +1,7 @@
 -- What was gathered is written in the end.
 use Rattle.std.proofs.Common.{◌≡◌, ℕ, ◌+◌, ◌<◌, Bool, true, false, List, [], ◌++◌, length, Result, Ok, Err, refl, ap, sym, ◌∙◌, append-nil, arith}
-use Rattle.mpd_lines.specs.Seen.{SinkSeen}
-use Rattle.mpd_lines.specs.declared.device.DeviceFault.{DeviceFault}
+use Rattle.mpd_model.specs.devices.Seen.{SinkSeen}
+use Rattle.mpd_model.specs.declared.device.DeviceFault.{DeviceFault}
 use Rattle.mpd_lines.specs.Gathering.{Gathered, Written, Spoken}
 use Rattle.mpd_lines.proofs.SentLaws.{appends_append}
 use Rattle.mpd_lines.specs.Telling.{waiting_below}

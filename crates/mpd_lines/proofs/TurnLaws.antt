@@ -2,9 +2,9 @@
 use Rattle.std.proofs.Common.{◌≡◌, ℕ, zero, suc, ◌+◌, ◌<◌, ◌≤◌, List, [], ◌++◌, length, Option, Some, None, Result, Ok, Err, refl, ap, sym, subst, ◌∙◌, append_assoc, append-nil, length-append, arith, inl, inr}
 use Rattle.std.specs.Io.KnownBytes.{Consumes, IsAtEnd, Keeps}
 use Rattle.mpd_model.specs.texts.Lines.{lines_of, ended_lines}
-use Rattle.mpd_lines.specs.Seen.{SourceSeen, SinkSeen}
-use Rattle.mpd_lines.specs.Ends.{ends_of}
-use Rattle.mpd_lines.specs.declared.device.DeviceFault.{DeviceFault}
+use Rattle.mpd_model.specs.devices.Seen.{SourceSeen, SinkSeen}
+use Rattle.mpd_model.specs.devices.Ends.{ends_of}
+use Rattle.mpd_model.specs.declared.device.DeviceFault.{DeviceFault}
 use Rattle.mpd_lines.specs.Forward.{ended_from, part_from, last_line}
 use Rattle.mpd_lines.specs.Telling.{Tells}
 use Rattle.mpd_lines.specs.Gathering.{Spoken}

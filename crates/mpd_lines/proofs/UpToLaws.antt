@@ -2,9 +2,9 @@
 use Rattle.std.proofs.Common.{◌≡◌, ℕ, zero, suc, ◌+◌, ◌<◌, ◌≤◌, inl, inr, List, [], ◌++◌, length, Ok, refl, ap, sym, subst, ◌∙◌, append-nil, arith, length-append}
 use Rattle.std.proofs.KnownBytes.{Consumes-nil, Consumes-trans, Consumes-kept}
 use Rattle.std.specs.Io.KnownBytes.{Consumes, IsAtEnd, Keeps}
-use Rattle.mpd_lines.specs.Seen.{SourceSeen}
-use Rattle.mpd_lines.specs.Ends.{ends_of}
-use Rattle.mpd_lines.specs.declared.device.DeviceFault.{DeviceFault}
+use Rattle.mpd_model.specs.devices.Seen.{SourceSeen}
+use Rattle.mpd_model.specs.devices.Ends.{ends_of}
+use Rattle.mpd_model.specs.declared.device.DeviceFault.{DeviceFault}
 use Rattle.mpd_lines.specs.UpTo.{IsRead, IsCutOff, Gathered}
 
 pub ends_some : (n before after : ℕ) → after ≡ before + ends_of {E = DeviceFault} (Ok n) → (n ≡ 0 → ⊥) → after ≡ before

@@ -1,8 +1,8 @@
 -- Answers that are gathered before they are written.
 use Rattle.std.specs.Prelude.{◌≡◌, ℕ, ◌+◌, ◌<◌, List, [], ◌++◌, length, Option, Result, Ok, Err}
 use Rattle.std.specs.Io.KnownBytes.{Appends}
-use Rattle.mpd_lines.specs.Seen.{SinkSeen}
-use Rattle.mpd_lines.specs.declared.device.DeviceFault.{DeviceFault}
+use Rattle.mpd_model.specs.devices.Seen.{SinkSeen}
+use Rattle.mpd_model.specs.declared.device.DeviceFault.{DeviceFault}
 use Rattle.mpd_lines.specs.Forward.{ended_from, part_from}
 use Rattle.mpd_lines.specs.Telling.{SaysInTurn, Tells, BreaksOff, AppendsPart}
 

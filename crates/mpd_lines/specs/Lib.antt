@@ -9,7 +9,4 @@ pub mod UpTo
 pub mod Verdicts
 pub mod Folding
 pub mod FoldRows
-pub mod Ends
-pub mod Limits
-pub mod Seen
 pub mod Echo

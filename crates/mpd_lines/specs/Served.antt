@@ -2,7 +2,7 @@
 use Rattle.std.specs.Prelude.{◌≡◌, ℕ, ◌+◌, ◌*◌, ◌≤◌, ◌⊎◌, List, [], ◌++◌, length, Result, Ok, Err}
 use Rattle.std.specs.Io.KnownBytes.{Consumes, IsAtEnd}
 use Rattle.mpd_model.specs.texts.Lines.{lines_of, ended_lines}
-use Rattle.mpd_lines.specs.Seen.{SourceSeen, SinkSeen}
+use Rattle.mpd_model.specs.devices.Seen.{SourceSeen, SinkSeen}
 use Rattle.mpd_lines.specs.Telling.{Tells, BreaksOff}
 use Rattle.mpd_lines.specs.declared.engine.EngineFault.{EngineFault}
 use Rattle.mpd_lines.specs.declared.engine.EngineFault.TheVariants.{ReadFailed, WriteFailed, TooManyTurns, Memory}

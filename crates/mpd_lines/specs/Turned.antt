@@ -1,7 +1,7 @@
 -- What one read and the answers to it have brought, and many of them.
 use Rattle.std.specs.Prelude.{◌≡◌, ℕ, ◌+◌, ◌*◌, ◌<◌, ◌≤◌, ◌⊎◌, List, [], ◌++◌, length, Result, Ok, Err}
 use Rattle.std.specs.Io.KnownBytes.{Consumes, IsAtEnd, Keeps}
-use Rattle.mpd_lines.specs.Seen.{SourceSeen, SinkSeen}
+use Rattle.mpd_model.specs.devices.Seen.{SourceSeen, SinkSeen}
 use Rattle.mpd_lines.specs.Forward.{ended_from, part_from, last_line}
 use Rattle.mpd_lines.specs.Telling.{Tells, BreaksOff}
 use Rattle.mpd_lines.specs.FaultWords.{failed_reads, failed_writes}

@@ -8,10 +8,9 @@ ghost use Rattle.mpd_lines.specs.Telling.{waiting_below};
 ghost use Rattle.mpd_lines.specs.Turned.{Turned, CountedOnce};
 
 use crate::desk::LineDesk;
-use crate::device::{DeviceFault, Sink, Source};
 use crate::feeder::Feeder;
 use crate::outbox::Outbox;
-use mpd_model::READS_MAX;
+use mpd_model::{DeviceFault, READS_MAX, Sink, Source};
 use std::alloc::Global;
 use std::error::Error;
 use std::fmt;

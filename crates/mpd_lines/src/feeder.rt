@@ -6,10 +6,9 @@ ghost use Rattle.mpd_lines.specs.Telling.{waiting_below};
 ghost use Rattle.mpd_lines.specs.Forward.{ended_from, part_from, last_line};
 
 use crate::desk::LineDesk;
-use crate::device::{DeviceFault, Sink};
 use crate::line_bytes::Seen;
 use crate::outbox::Outbox;
-use mpd_model::{LINE_MAX, without_return};
+use mpd_model::{DeviceFault, LINE_MAX, Sink, without_return};
 use std::alloc::{AllocError, Global};
 use std::marker::Model;
 

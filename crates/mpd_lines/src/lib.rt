@@ -1,12 +1,10 @@
-//! Bytes and lines: devices that are counted, and devices that are made to fail; what comes in pieces is cut into lines, a desk answers
-//! each, and the answers are written before the next read; long lines of an answer go on in further lines (docs/CONSOLE.md).
+//! Bytes and lines: what comes in pieces is cut into lines, a desk answers each, and the answers are written before the next read; long
+//! lines of an answer go on in further lines (docs/CONSOLE.md).
 #![tactic(auto)]
 
 pub mod desk;
-pub mod device;
 pub mod echo;
 pub mod engine;
-pub mod failing;
 mod feeder;
 pub mod fold;
 mod line_bytes;
@@ -16,10 +14,8 @@ pub mod up_to;
 pub mod verdict;
 
 pub use desk::{LINE_ROOM, LineDesk, ROOM};
-pub use device::{DeviceFault, FromReader, Sink, Source, ToWriter};
 pub use echo::{MARK_MAX, push_echo, push_long_echo};
 pub use engine::{EngineFault, READ_MAX, run, run_behind};
-pub use failing::{FailingSink, FailingSource, Limit};
 pub use fold::{
     INDENT, WIDTH, long_lines_can_nowhere_be_cut, long_lines_keep_their_words, push_folded,
     push_folded_at,

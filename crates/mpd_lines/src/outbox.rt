@@ -4,8 +4,7 @@ ghost use Rattle.mpd_lines.specs.Gathering.{Gathered, Relieved, Written};
 ghost use Rattle.mpd_lines.specs.Telling.{waiting_below};
 
 use crate::desk::{LINE_ROOM, LineDesk};
-use crate::device::{DeviceFault, Sink};
-use mpd_model::LINE_MAX;
+use mpd_model::{DeviceFault, LINE_MAX, Sink};
 use std::alloc::{AllocError, Global};
 use std::marker::Model;
 

@@ -2,9 +2,9 @@
 ghost use Rattle.std.specs.Prelude.{◌+◌, ◌<◌, ◌^◌, IfOk, IfErr};
 ghost use Rattle.mpd_lines.specs.UpTo.{IsRead, IsUnread};
 
-use crate::device::Source;
 use crate::engine::{EngineFault, READ_MAX};
 use crate::room::push_all;
+use mpd_model::Source;
 use std::alloc::Global;
 use std::cmp;
 

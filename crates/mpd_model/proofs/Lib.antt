@@ -1,3 +1,4 @@
 pub mod LineLaws
 pub mod LineLemmas
 pub mod WordLemmas
+pub mod KeepLaws

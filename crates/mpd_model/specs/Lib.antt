@@ -3,3 +3,4 @@ pub mod runs
 pub mod script
 pub mod steps
 pub mod texts
+pub mod devices

@@ -5,7 +5,9 @@ pub mod breakpoint;
 pub mod call;
 pub mod comparison;
 pub mod decision;
+pub mod device;
 pub mod expr;
+pub mod failing;
 pub mod kind;
 pub mod limits;
 pub mod lines;
@@ -28,7 +30,9 @@ pub use call::{
 };
 pub use comparison::{Comparison, comparison_of};
 pub use decision::{Decision, StepList};
+pub use device::{DeviceFault, FromReader, Sink, Source, ToWriter};
 pub use expr::{BinaryOp, Expr, ExprNode, UnaryOp};
+pub use failing::{FailingSink, FailingSource, Limit};
 pub use kind::{blocks, is_barrier};
 pub use limits::{
     BLOCKS_MAX, BREAKS_MAX, CELLS_MAX, HANDLES_MAX, LANGUAGE_MAX, LINE_MAX, NAME_MAX, NESTING_MAX,

@@ -20,7 +20,7 @@ use Rattle.mpd_options.specs.declared.options.Options.TheVariants.{Plain, Diagno
 -- what is asked for: a script and its trace on standard input, a diagnosis of a file, the trace of one, a console on one, and an editor's debugger of one, each with the choices of a run or
 -- none and a witness or none, answers to requests on one, of one or of several clients, a look for deadlocks in one, a check of a witness, the trace words of a run,
 -- a script in C, a picture of a run, by its choices, a witness, or trace words, each given or not, or a page of runs, by these or by how many; with the words of files, mode and
--- choices, up to how many slots modes are diagnosed, whether messages left over count, the word of several numbers of ranks, the port, how many clients, how deadlocks are looked for, the number of a leaf, the fuel, how many states
+-- choices, up to how many slots modes are diagnosed, whether messages left over count, the word of several numbers of ranks, the port, how many clients, whether more requests are answered, how deadlocks are looked for, the number of a leaf, the fuel, how many states
 -- searches come to,
 -- whether choices are those of a report of `--ends` or `--sample`, whether how runs end is covered, whether lines that are read are shown, how many bytes a line of an answer has, whether the screen is drawn anew, and how many lines it has
 pub data Task : Type 0 where
@@ -29,8 +29,8 @@ pub data Task : Type 0 where
   trace : List ℕ → List ℕ → Bool → Task
   debug : List ℕ → List ℕ → Option (List ℕ) → Option (List ℕ) → Bool → Bool → ℕ → Bool → ℕ → Task
   dap : List ℕ → List ℕ → Option (List ℕ) → Option (List ℕ) → Bool → Task
-  run : List ℕ → List ℕ → Task
-  serve : List ℕ → List ℕ → ℕ → ℕ → Task
+  run : List ℕ → List ℕ → Bool → Task
+  serve : List ℕ → List ℕ → ℕ → ℕ → Bool → Task
   check : List ℕ → List ℕ → CheckOptions → Task
   verify : List ℕ → List ℕ → List ℕ → Option ℕ → Task
   tell : List ℕ → List ℕ → List ℕ → ℕ → Bool → Task
@@ -53,8 +53,8 @@ task_of (Diagnose file mode modes strict ranks) = diagnose file.now (given_word 
 task_of (Trace file mode echo) = trace file.now mode.now echo
 task_of (Debug file mode choices witness ends echo width view height) = debug file.now mode.now (given_word choices) (given_word witness) ends echo width view height
 task_of (Dap file mode choices witness ends) = dap file.now mode.now (given_word choices) (given_word witness) ends
-task_of (Run file mode) = run file.now mode.now
-task_of (Serve file mode port clients) = serve file.now mode.now port clients
+task_of (Run file mode wide) = run file.now mode.now wide
+task_of (Serve file mode port clients wide) = serve file.now mode.now port clients wide
 task_of (Check file mode options) = check file.now mode.now options
 task_of (Verify file witness mode leaf) = verify file.now witness.now mode.now leaf
 task_of (Words file choices mode fuel ends) = tell file.now choices.now mode.now fuel ends
@@ -83,7 +83,7 @@ AreInRange o =
 abbrev pub IsTaskInRange : Task → Type 0
 IsTaskInRange (diagnose file mode modes strict ranks) = IfSome modes (λ n. n ≤ most_modes)
 IsTaskInRange (debug file mode choices witness ends echo width view height) = (least_width ≤ width) × (width ≤ most_width) × (least_height ≤ height) × (height ≤ most_height)
-IsTaskInRange (serve file mode port clients) = (1 ≤ port) × (port ≤ most_port) × (1 ≤ clients) × (clients ≤ most_clients)
+IsTaskInRange (serve file mode port clients wide) = (1 ≤ port) × (port ≤ most_port) × (1 ≤ clients) × (clients ≤ most_clients)
 IsTaskInRange (check file mode options) = AreInRange options
 IsTaskInRange (verify file witness mode leaf) = IfSome leaf (λ n. n ≤ most_leaf)
 IsTaskInRange (tell file choices mode fuel ends) = (1 ≤ fuel) × (fuel ≤ most_fuel)
@@ -225,6 +225,7 @@ options_by text = record {
   group = is_on (text the.Group);
   until_bad = is_some (text the.Until);
   witness = is_on (text the.Witness);
+  traps = is_on (text the.Traps);
   complete = is_on (text the.Complete);
   piece = number_by (text the.Piece);
   count_pieces = is_on (text the.Pieces);
@@ -234,8 +235,8 @@ abbrev pub task_by : Tool → (Name → Option (List ℕ)) → Task
 task_by tool.Trace text = trace (word_by (text the.File)) (word_by (text the.Mode)) (is_on (text the.Echo))
 task_by tool.Debug text = debug (word_by (text the.File)) (word_by (text the.Mode)) (text the.LaidChoices) (text the.LaidWitness) (is_on (text the.ChosenEnds)) (is_on (text the.Echo)) (number_or_none (number_by (text the.Width))) (is_on (text the.View)) (number_or_none (number_by (text the.Height)))
 task_by tool.Dap text = dap (word_by (text the.File)) (word_by (text the.Mode)) (text the.LaidChoices) (text the.LaidWitness) (is_on (text the.ChosenEnds))
-task_by tool.Run text = run (word_by (text the.File)) (word_by (text the.Mode))
-task_by tool.Serve text = serve (word_by (text the.File)) (word_by (text the.Mode)) (number_or_none (port_by (text the.Port))) (number_or_none (number_by (text the.Clients)))
+task_by tool.Run text = run (word_by (text the.File)) (word_by (text the.Mode)) (is_on (text the.Wide))
+task_by tool.Serve text = serve (word_by (text the.File)) (word_by (text the.Mode)) (number_or_none (port_by (text the.Port))) (number_or_none (number_by (text the.Clients))) (is_on (text the.Wide))
 task_by tool.Check text = check (word_by (text the.File)) (word_by (text the.Mode)) (options_by text)
 task_by tool.Verify text = verify (word_by (text the.File)) (word_by (text the.WitnessFile)) (word_by (text the.Mode)) (number_by (text the.Leaf))
 task_by tool.Words text = tell (word_by (text the.File)) (word_by (text the.NeededChoices)) (word_by (text the.Mode)) (number_or_none (number_by (text the.Fuel))) (is_on (text the.ChosenEnds))

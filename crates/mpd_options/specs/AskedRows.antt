@@ -26,11 +26,19 @@ strays words = (codes "debug" ∷ codes "a" ∷ words, None)
 
 -- words after `run`, and the file and the mode that they name
 abbrev runs : List (List ℕ) → List ℕ → List ℕ → Row
-runs words file mode = (codes "run" ∷ words, Some (run file mode))
+runs words file mode = (codes "run" ∷ words, Some (run file mode false))
+
+-- and with `--wide`
+abbrev runs_wide : List (List ℕ) → List ℕ → List ℕ → Row
+runs_wide words file mode = (codes "run" ∷ words, Some (run file mode true))
 
 -- words after `serve`, and the mode, the port and how many clients they ask for, of the file `a`
 abbrev serves : List (List ℕ) → List ℕ → ℕ → ℕ → Row
-serves words mode port clients = (codes "serve" ∷ words, Some (serve (codes "a") mode port clients))
+serves words mode port clients = (codes "serve" ∷ words, Some (serve (codes "a") mode port clients false))
+
+-- and with `--wide`
+abbrev serves_wide : List (List ℕ) → List ℕ → ℕ → ℕ → Row
+serves_wide words mode port clients = (codes "serve" ∷ words, Some (serve (codes "a") mode port clients true))
 
 -- words after `serve a` that make them ask for nothing
 abbrev wastes : List (List ℕ) → Row
@@ -56,6 +64,7 @@ by_default =
       group = false;
       until_bad = false;
       witness = false;
+      traps = false;
       complete = false;
       piece = None;
       count_pieces = false;
@@ -150,6 +159,9 @@ rows =
     ∷ runs (codes "--" ∷ codes "--mode" ∷ []) (codes "--mode") (codes "rendezvous")
     ∷ runs (codes "--mode" ∷ codes "b" ∷ codes "--" ∷ codes "-x" ∷ []) (codes "-x") (codes "b")
     ∷ runs (codes "a" ∷ codes "--" ∷ []) (codes "a") (codes "rendezvous")
+    ∷ runs (codes "--" ∷ codes "--wide" ∷ []) (codes "--wide") (codes "rendezvous")
+    ∷ runs_wide (codes "a" ∷ codes "--wide" ∷ []) (codes "a") (codes "rendezvous")
+    ∷ runs_wide (codes "--wide" ∷ codes "a" ∷ codes "--mode" ∷ codes "buffered" ∷ []) (codes "a") (codes "buffered")
     ∷ names (codes "run" ∷ []) (codes "run") (codes "rendezvous")
     ∷ nothing (codes "run" ∷ [])
     ∷ nothing (codes "run" ∷ codes "--" ∷ [])
@@ -162,6 +174,11 @@ rows =
     ∷ nothing (codes "run" ∷ codes "a" ∷ codes "--runs" ∷ codes "5" ∷ [])
     ∷ nothing (codes "run" ∷ codes "a" ∷ codes "--fuel=5" ∷ [])
     ∷ nothing (codes "run" ∷ codes "a" ∷ codes "--witness" ∷ [])
+    ∷ nothing (codes "run" ∷ codes "a" ∷ codes "--wide" ∷ codes "--wide" ∷ [])
+    ∷ nothing (codes "run" ∷ codes "a" ∷ codes "--wide=true" ∷ [])
+    ∷ nothing (codes "run" ∷ codes "a" ∷ codes "--wid" ∷ [])
+    ∷ nothing (codes "trace" ∷ codes "a" ∷ codes "--wide" ∷ [])
+    ∷ nothing (codes "debug" ∷ codes "a" ∷ codes "--wide" ∷ [])
     ∷ nothing (codes "run" ∷ codes "a" ∷ codes "-m" ∷ [])
     ∷ nothing (codes "run" ∷ codes "--help" ∷ [])
     ∷ nothing (codes "run" ∷ codes "-h" ∷ codes "a" ∷ [])
@@ -181,9 +198,10 @@ rows =
     ∷ serves (codes "a" ∷ codes "--port=+007" ∷ codes "--clients=016" ∷ []) (codes "rendezvous") 7 16
     ∷ serves (codes "a" ∷ codes "--mode" ∷ codes "buffered" ∷ codes "--port" ∷ codes "4000" ∷ codes "--clients" ∷ codes "2" ∷ []) (codes "buffered") 4000 2
     ∷ serves (codes "--mode=b" ∷ codes "--port" ∷ codes "80" ∷ codes "a" ∷ codes "--clients" ∷ codes "3" ∷ codes "--" ∷ []) (codes "b") 80 3
-    ∷ (codes "serve" ∷ codes "--port=5" ∷ codes "--clients=6" ∷ codes "--" ∷ codes "--port" ∷ [], Some (serve (codes "--port") (codes "rendezvous") 5 6))
-    ∷ (codes "serve" ∷ codes "serve" ∷ codes "--port=5" ∷ codes "--clients=6" ∷ [], Some (serve (codes "serve") (codes "rendezvous") 5 6))
-    ∷ (codes "serve" ∷ codes "" ∷ codes "--mode=" ∷ codes "--port=5" ∷ codes "--clients=6" ∷ [], Some (serve [] [] 5 6))
+    ∷ serves_wide (codes "a" ∷ codes "--port" ∷ codes "4000" ∷ codes "--wide" ∷ codes "--clients" ∷ codes "2" ∷ []) (codes "rendezvous") 4000 2
+    ∷ (codes "serve" ∷ codes "--port=5" ∷ codes "--clients=6" ∷ codes "--" ∷ codes "--port" ∷ [], Some (serve (codes "--port") (codes "rendezvous") 5 6 false))
+    ∷ (codes "serve" ∷ codes "serve" ∷ codes "--port=5" ∷ codes "--clients=6" ∷ [], Some (serve (codes "serve") (codes "rendezvous") 5 6 false))
+    ∷ (codes "serve" ∷ codes "" ∷ codes "--mode=" ∷ codes "--port=5" ∷ codes "--clients=6" ∷ [], Some (serve [] [] 5 6 false))
     ∷ names (codes "serve" ∷ []) (codes "serve") (codes "rendezvous")
     ∷ runs (codes "serve" ∷ []) (codes "serve") (codes "rendezvous")
     ∷ nothing (codes "serve" ∷ [])
@@ -192,6 +210,8 @@ rows =
     ∷ wastes (codes "--port" ∷ codes "4000" ∷ [])
     ∷ wastes (codes "--port" ∷ codes "4000" ∷ codes "--" ∷ codes "--clients" ∷ codes "2" ∷ [])
     ∷ wastes (codes "--mode" ∷ codes "buffered" ∷ [])
+    ∷ wastes (codes "--wide" ∷ [])
+    ∷ wastes (codes "--port" ∷ codes "4000" ∷ codes "--wide" ∷ codes "--clients" ∷ codes "2" ∷ codes "--wide" ∷ [])
     ∷ wastes (codes "--port" ∷ codes "0" ∷ codes "--clients" ∷ codes "2" ∷ [])
     ∷ wastes (codes "--port" ∷ codes "65536" ∷ codes "--clients" ∷ codes "2" ∷ [])
     ∷ wastes (codes "--port=99999999999999999999" ∷ codes "--clients=2" ∷ [])

@@ -36,6 +36,7 @@ by_default =
       group = false;
       until_bad = false;
       witness = false;
+      traps = false;
       complete = false;
       piece = None;
       count_pieces = false;
@@ -203,6 +204,8 @@ rows =
     ∷ nothing (codes "--outcomes" ∷ codes "check" ∷ codes "a" ∷ [])
     ∷ seeks (codes "--explain" ∷ []) (record by_default { explain = true })
     ∷ seeks (codes "--group" ∷ []) (record by_default { group = true })
+    ∷ seeks (codes "--witness" ∷ codes "--traps" ∷ []) (record by_default { witness = true; traps = true })
+    ∷ seeks (codes "--traps" ∷ codes "--piece=7" ∷ []) (record by_default { traps = true; piece = Some 7 })
     ∷ seeks (codes "--group" ∷ codes "--explain" ∷ codes "--witness" ∷ codes "--ends" ∷ []) (record by_default { ends = true; explain = true; group = true; witness = true })
     ∷ seeks (codes "--ends" ∷ codes "--runs" ∷ codes "7" ∷ codes "--split" ∷ codes "2" ∷ []) (record by_default { ends = true; runs = 7; runs_given = true; split = 2; split_given = true })
     ∷ seeks (codes "--runs" ∷ codes "1000" ∷ []) (record by_default { runs = 1000; runs_given = true })
@@ -230,6 +233,9 @@ rows =
     ∷ spoils (codes "--group=true" ∷ [])
     ∷ spoils (codes "--group=" ∷ [])
     ∷ spoils (codes "--group" ∷ codes "--group" ∷ [])
+    ∷ spoils (codes "--traps" ∷ codes "--traps" ∷ [])
+    ∷ spoils (codes "--traps" ∷ codes "1" ∷ [])
+    ∷ spoils (codes "--traps=true" ∷ [])
     ∷ spoils (codes "--group" ∷ codes "1" ∷ [])
     ∷ spoils (codes "--end" ∷ [])
     ∷ spoils (codes "--explains" ∷ [])
@@ -380,6 +386,7 @@ fault_rows =
     ∷ wrong kind.UnknownArgument (codes "trace" ∷ codes "a" ∷ codes "--ends" ∷ [])
     ∷ wrong kind.UnknownArgument (codes "run" ∷ codes "a" ∷ codes "--explain" ∷ [])
     ∷ wrong kind.UnknownArgument (codes "verify" ∷ codes "a" ∷ codes "b" ∷ codes "--group" ∷ [])
+    ∷ wrong kind.UnknownArgument (codes "verify" ∷ codes "a" ∷ codes "b" ∷ codes "--traps" ∷ [])
     ∷ wrong kind.UnknownArgument (codes "words" ∷ codes "a" ∷ codes "--choices" ∷ codes "0" ∷ codes "--sample" ∷ codes "5" ∷ [])
     ∷ wrong kind.UnknownArgument (codes "--seed" ∷ codes "5" ∷ codes "check" ∷ codes "a" ∷ [])
     ∷ wrong kind.UnknownArgument (codes "check" ∷ codes "a" ∷ codes "--end" ∷ [])
@@ -410,6 +417,7 @@ fault_rows =
     ∷ wrong kind.ArgumentConflict (codes "check" ∷ codes "a" ∷ codes "--ends" ∷ codes "--ends" ∷ [])
     ∷ wrong kind.ArgumentConflict (codes "check" ∷ codes "a" ∷ codes "--explain" ∷ codes "--explain" ∷ [])
     ∷ wrong kind.ArgumentConflict (codes "check" ∷ codes "a" ∷ codes "--group" ∷ codes "--group" ∷ [])
+    ∷ wrong kind.ArgumentConflict (codes "check" ∷ codes "a" ∷ codes "--traps" ∷ codes "--traps" ∷ [])
     ∷ wrong kind.ArgumentConflict (codes "check" ∷ codes "a" ∷ codes "--sample" ∷ codes "5" ∷ codes "--sample" ∷ codes "5" ∷ [])
     ∷ wrong kind.ArgumentConflict (codes "check" ∷ codes "a" ∷ codes "--seed=5" ∷ codes "--seed=x" ∷ [])
     ∷ []

@@ -31,8 +31,8 @@ rows =
     for (codes "trace" ∷ codes "a" ∷ codes "--ranks" ∷ codes "4" ∷ []) (trace (codes "a") (codes "rendezvous") false) 4
     ∷ for (codes "trace" ∷ codes "--ranks=16" ∷ codes "a" ∷ codes "--mode" ∷ codes "b" ∷ []) (trace (codes "a") (codes "b") false) 16
     ∷ for (codes "debug" ∷ codes "a" ∷ codes "--ranks" ∷ codes "1" ∷ codes "--choices" ∷ codes "2" ∷ []) (debug (codes "a") (codes "rendezvous") (Some (codes "2")) None false false 80 false 24) 1
-    ∷ for (codes "run" ∷ codes "a" ∷ codes "--ranks=007" ∷ []) (run (codes "a") (codes "rendezvous")) 7
-    ∷ for (codes "serve" ∷ codes "a" ∷ codes "--port" ∷ codes "4" ∷ codes "--ranks" ∷ codes "5" ∷ codes "--clients" ∷ codes "6" ∷ []) (serve (codes "a") (codes "rendezvous") 4 6) 5
+    ∷ for (codes "run" ∷ codes "a" ∷ codes "--ranks=007" ∷ []) (run (codes "a") (codes "rendezvous") false) 7
+    ∷ for (codes "serve" ∷ codes "a" ∷ codes "--port" ∷ codes "4" ∷ codes "--ranks" ∷ codes "5" ∷ codes "--clients" ∷ codes "6" ∷ []) (serve (codes "a") (codes "rendezvous") 4 6 false) 5
     ∷ for (codes "verify" ∷ codes "a" ∷ codes "b" ∷ codes "--leaf" ∷ codes "3" ∷ codes "--ranks" ∷ codes "+9" ∷ []) (verify (codes "a") (codes "b") (codes "rendezvous") (Some 3)) 9
     ∷ for (codes "words" ∷ codes "a" ∷ codes "--choices" ∷ codes "0" ∷ codes "--ranks" ∷ codes "2" ∷ codes "--ends" ∷ []) (tell (codes "a") (codes "0") (codes "rendezvous") 100000 true) 2
     ∷ for (codes "c" ∷ codes "a" ∷ codes "--ranks" ∷ codes "12" ∷ []) (translate (codes "a")) 12

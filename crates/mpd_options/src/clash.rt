@@ -1,6 +1,6 @@
 //! Options of `check` that can't be combined (docs/FORMATS.md, "The command line").
 ghost use Rattle.std.specs.Prelude.{◌≡◌};
-ghost use Rattle.mpd_options.specs.Clashes.{beside_complete, beside_outcomes, beside_sample, clash_of, first_given, option_word};
+ghost use Rattle.mpd_options.specs.Clashes.{beside_complete, beside_outcomes, beside_sample, clash_of, first_given, option_word, wants_traps};
 
 use crate::options::CheckOptions;
 
@@ -61,6 +61,8 @@ pub enum Clash {
     SeedAlone,
     /// `--states` wants `--outcomes`, which isn't there.
     StatesAlone,
+    /// `--traps` wants `--witness`, which isn't there.
+    TrapsAlone,
 }
 
 impl CheckOptions {
@@ -134,12 +136,31 @@ impl CheckOptions {
         None
     }
 
-    /// Why these options can't be combined; `None` if they can. What can't be combined with
-    /// `--outcomes` comes first, then that `--states` is alone, then what can't be combined with
-    /// `--sample`, then that `--seed` is alone, then what can't be combined with `--complete`.
+    /// Whether `--witness` has traps beside deadlocks: if that is asked for, and wherever more is told
+    /// of leaves, or other runs are tried, than in a plain report. Neither ranks, modes and pieces nor
+    /// the status turn it on, so that joined pieces are the plain report.
+    pub fn wants_traps(self) -> bool
+        ensures { result ≡ wants_traps self }
+    {
+        self.traps
+            || self.explain
+            || self.ends
+            || self.until_bad
+            || self.group
+            || self.outcomes
+            || self.sample.is_some()
+    }
+
+    /// Why these options can't be combined; `None` if they can. That `--traps` is alone comes first,
+    /// then what can't be combined with `--outcomes`, then that `--states` is alone, then what can't
+    /// be combined with `--sample`, then that `--seed` is alone, then what can't be combined with
+    /// `--complete`.
     pub fn clash(self) -> Option<Clash>
         ensures { result ≡ clash_of self }
     {
+        if self.traps && !self.witness {
+            return Some(Clash::TrapsAlone);
+        }
         if self.outcomes {
             return match self.beside_outcomes() {
                 Some(other) => Some(Clash::Both(CheckOption::Outcomes, other)),

@@ -57,10 +57,12 @@ const RUN_ABOUT: &str = "Answer JSON requests on the script of a file";
 
 const RUN_EXAMPLE: &str =
     "Requests stand on standard input, a JSON object on each line, and each is answered by one line:
-  step, next, run, run-on            go forward
+  step, next, run                    go forward
   back, redo, goto, run-back         go back, and forward again
   state, enabled, vars, calls, why   look at where it stands
   break, unbreak, breaks, explore    set breakpoints, list the runs from here
+With --wide these are answered, too, and `break` has more kinds and fields:
+  run-on                             go forward, also at a single candidate
   hit                                tell which breakpoint the last step hits
   script, where, all, decision       tell names, lines, and what comes next
   steps, lines, explain              list steps, lines of calls, and why it ended so

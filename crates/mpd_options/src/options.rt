@@ -60,8 +60,10 @@ pub struct CheckOptions {
     pub group: bool,
     /// Whether the report ends after the first run that ends in a deadlock or a trap.
     pub until_bad: bool,
-    /// Whether the trace words of runs to a deadlock or trap are wanted.
+    /// Whether the trace words of runs to a deadlock are wanted.
     pub witness: bool,
+    /// Whether those of runs to a trap are asked for beside them.
+    pub traps: bool,
     /// Whether the status shall say that not all runs were tried.
     pub complete: bool,
     /// The number of the piece whose part of the report is wanted alone, 0 to 1,023; optional.
@@ -165,6 +167,8 @@ pub enum Options<'a> {
         file: &'a str,
         /// The word of the mode, unchecked; `rendezvous` if none is given.
         mode: &'a str,
+        /// Whether more requests are answered than those of the closed list.
+        wide: bool,
     },
     /// Answer requests of several clients on the script of a file.
     Serve {
@@ -176,6 +180,8 @@ pub enum Options<'a> {
         port: u16,
         /// How many clients are answered, 1 to 16.
         clients: usize,
+        /// Whether more requests are answered than those of the closed list.
+        wide: bool,
     },
     /// Look for deadlocks in the script of a file.
     Check {
@@ -471,7 +477,8 @@ fn run_in<'a>(run: &ArgMatches<'a>) -> Options<'a>
 {
     let file = word(run, Name::File);
     let mode = word(run, Name::Mode);
-    Options::Run { file, mode }
+    let wide = is_on(run, Name::Wide);
+    Options::Run { file, mode, wide }
 }
 
 /// What the words after `serve` ask for.
@@ -482,11 +489,13 @@ fn serve_in<'a>(serve: &ArgMatches<'a>) -> Options<'a>
     let mode = word(serve, Name::Mode);
     let port = port_of(serve);
     let clients = number(serve, Name::Clients);
+    let wide = is_on(serve, Name::Wide);
     Options::Serve {
         file,
         mode,
         port,
         clients,
+        wide,
     }
 }
 
@@ -519,6 +528,7 @@ fn check_options_in(check: &ArgMatches<'_>) -> CheckOptions
     let group = is_on(check, Name::Group);
     let ends_at_first = text(check, Name::Until);
     let wants_witness = is_on(check, Name::Witness);
+    let wants_traps = is_on(check, Name::Traps);
     let is_complete = is_on(check, Name::Complete);
     let piece = given(check, Name::Piece);
     let counts_pieces = is_on(check, Name::Pieces);
@@ -539,6 +549,7 @@ fn check_options_in(check: &ArgMatches<'_>) -> CheckOptions
         group,
         until_bad: ends_at_first.is_some(),
         witness: wants_witness,
+        traps: wants_traps,
         complete: is_complete,
         piece,
         count_pieces: counts_pieces,

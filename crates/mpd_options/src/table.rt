@@ -82,6 +82,7 @@ pub(crate) enum Name {
     Modes,
     Port,
     Clients,
+    Wide,
     Runs,
     Fuel,
     Split,
@@ -96,6 +97,7 @@ pub(crate) enum Name {
     Group,
     Until,
     Witness,
+    Traps,
     Complete,
     Piece,
     Pieces,
@@ -296,6 +298,10 @@ impl Name {
                 Unsaid::Missed,
                 "How many clients it answers, 1 to 16",
             ),
+            Name::Wide => flag(
+                "wide",
+                "Answer more requests: run-on, hit, script, where, all, decision, steps, lines and explain, and more kinds and fields of break",
+            ),
             Name::Runs => option(
                 "runs",
                 "N",
@@ -374,7 +380,11 @@ impl Name {
             ),
             Name::Witness => flag(
                 "witness",
-                "Print the trace words of a run that ends in a deadlock or a trap",
+                "Print the trace words of a run that ends in a deadlock",
+            ),
+            Name::Traps => flag(
+                "traps",
+                "With --witness, print those of a run that ends in a trap too, as other ways to report do [see docs/FORMATS.md]",
             ),
             Name::Complete => flag(
                 "complete",
@@ -541,7 +551,7 @@ impl Tool {
                 Name::Strict,
             ],
             Tool::Trace => &[Name::File, Name::Ranks, Name::Mode, Name::Echo],
-            Tool::Run => &[Name::File, Name::Ranks, Name::Mode],
+            Tool::Run => &[Name::File, Name::Ranks, Name::Mode, Name::Wide],
             Tool::Debug => &[
                 Name::File,
                 Name::Ranks,
@@ -568,6 +578,7 @@ impl Tool {
                 Name::Mode,
                 Name::Port,
                 Name::Clients,
+                Name::Wide,
             ],
             Tool::Check => &[
                 Name::File,
@@ -587,6 +598,7 @@ impl Tool {
                 Name::Group,
                 Name::Until,
                 Name::Witness,
+                Name::Traps,
                 Name::Complete,
                 Name::Piece,
                 Name::Pieces,

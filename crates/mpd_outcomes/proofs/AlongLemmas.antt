@@ -7,7 +7,7 @@ use Rattle.mpd_model.specs.steps.World.{World}
 use Rattle.mpd_model.specs.runs.Decisions.{CanFollow}
 use Rattle.mpd_model.specs.runs.Trail.{Standing, done_steps}
 use Rattle.mpd_policy.specs.Wide.{wide_decision}
-use Rattle.mpd_explore.specs.declared.report.Leaf.{Leaf}
+use Rattle.mpd_explore.specs.declared.report.SearchLeaf.{SearchLeaf}
 use Rattle.mpd_explore.proofs.ListLemmas.{reverse_pushed}
 use Rattle.mpd_explore.proofs.SearchLemmas.{Went}
 use Rattle.mpd_outcomes.specs.declared.search.Open.{Open}
@@ -38,7 +38,7 @@ use Rattle.mpd_explore.specs.Report.{shown}
 
 -- ---- of leaves
 
-pub along_joined : (xs ys : List Leaf) → states_along (xs ++ ys) ≡ states_along xs + states_along ys
+pub along_joined : (xs ys : List SearchLeaf) → states_along (xs ++ ys) ≡ states_along xs + states_along ys
 along_joined [] ys = omega arith
 along_joined (x ∷ xs) ys = let more = along_joined xs ys in omega (arith, more)
 
@@ -50,11 +50,11 @@ picked_length (f ∷ fs) =
     omega (arith, long, more)
 
 -- the first of some leaves with choices before them
-first_put : (cs : List ℕ) (ls : List Leaf) (n : ℕ) → 0 < length ls → length cs < states_along (take (suc n) (map (put cs) ls))
+first_put : (cs : List ℕ) (ls : List SearchLeaf) (n : ℕ) → 0 < length ls → length cs < states_along (take (suc n) (map (put cs) ls))
 first_put cs [] n some = absurd (omega (arith, some))
 first_put cs (l ∷ ls) n some = let long = length-append cs l.choices in omega (arith, long)
 
-put_some : (cs : List ℕ) (ls : List Leaf) → 0 < length ls → length cs < states_along (map (put cs) ls)
+put_some : (cs : List ℕ) (ls : List SearchLeaf) → 0 < length ls → length cs < states_along (map (put cs) ls)
 put_some cs [] some = absurd (omega (arith, some))
 put_some cs (l ∷ ls) some = let long = length-append cs l.choices in omega (arith, long)
 
@@ -116,8 +116,8 @@ advanced (Err fault) s f mid g d m e more grows turned ways come = tt
 pub went_from : (s : Search) (f : Front) (d e : Standing) (b : Bool) (g : Front) (n : Standing) → before s (open_in f) (done_steps e.trail) ≡ before s (open_in f) (done_steps d.trail) → WentOn s f e b g n → WentOn s f d b g n
 went_from s f d e b g n same w = record {
   turned = w.turned;
-  grows = subst (λ (ls : List Leaf). Grows f.ways.items g.ways.items ls (come_now s b g n)) same w.grows;
-  states = subst (λ (ls : List Leaf). states_along ls + length (open_in f) < states_now s b g n) same w.states;
+  grows = subst (λ (ls : List SearchLeaf). Grows f.ways.items g.ways.items ls (come_now s b g n)) same w.grows;
+  states = subst (λ (ls : List SearchLeaf). states_along ls + length (open_in f) < states_now s b g n) same w.states;
 }
 
 pub went_down : {E : Type 0} (r : Result Bool E) (b : Bounds) (t : Trail) (root : World) (f : Front) (d e : Standing) (a : Arrived) (g : Front) (n : Standing) → BeforeIn (search_of b t root) f d → Down b.limit d a e → Beyond d e
@@ -131,23 +131,23 @@ went_down r b t root f d e a g n h down beyond from =
 -- ---- what is told of it
 
 -- no more states than stand along the leaves that were come to and the next one
-pub along_next : (visited : ℕ) (cs : List ℕ) (all ls here rest : List Leaf) → 0 < length here → all ≡ ls ++ (map (put cs) here ++ rest) → visited ≤ states_along ls + length cs → visited ≤ states_along (take (suc (length ls)) all)
+pub along_next : (visited : ℕ) (cs : List ℕ) (all ls here rest : List SearchLeaf) → 0 < length here → all ≡ ls ++ (map (put cs) here ++ rest) → visited ≤ states_along ls + length cs → visited ≤ states_along (take (suc (length ls)) all)
 along_next visited cs all ls [] rest some whole few = absurd (omega (arith, some))
 along_next visited cs all ls (l ∷ here) rest some whole few =
-    let next : List Leaf = put cs l ∷ [] in
-    let more : List Leaf = map (put cs) here ++ rest in
+    let next : List SearchLeaf = put cs l ∷ [] in
+    let more : List SearchLeaf = map (put cs) here ++ rest in
     let is : take (suc (length ls)) all ≡ ls ++ next = ap (take (suc (length ls))) whole ∙ seam ls (put cs l) more in
     let along = ap states_along is in
     let parts = along_joined ls next in
     let long = length-append cs l.choices in
     omega (arith, along, parts, long, few)
   where
-    seam : (xs : List Leaf) (x : Leaf) (ys : List Leaf) → take (suc (length xs)) (xs ++ x ∷ ys) ≡ xs ++ x ∷ []
+    seam : (xs : List SearchLeaf) (x : SearchLeaf) (ys : List SearchLeaf) → take (suc (length xs)) (xs ++ x ∷ ys) ≡ xs ++ x ∷ []
     seam [] x ys = refl
-    seam (y ∷ xs) x ys = ap (λ (zs : List Leaf). y ∷ zs) (seam xs x ys)
+    seam (y ∷ xs) x ys = ap (λ (zs : List SearchLeaf). y ∷ zs) (seam xs x ys)
 
 -- one leaf more
-along_more : (n : ℕ) (ls : List Leaf) → states_along (take n ls) ≤ states_along (take (suc n) ls)
+along_more : (n : ℕ) (ls : List SearchLeaf) → states_along (take n ls) ≤ states_along (take (suc n) ls)
 along_more zero ls = omega arith
 along_more (suc n) [] = omega arith
 along_more (suc n) (l ∷ ls) = let more = along_more n ls in omega (arith, more)
@@ -159,7 +159,7 @@ few_along s f d true visited runs law h within come few =
     let fs = open_in f in
     let ls = before s fs (done_steps d.trail) in
     let left = left_over s fs (done_steps d.trail) d.trail.depth d.world h.at.stands in
-    let as_many = ap (λ (xs : List Leaf). length xs) come in
+    let as_many = ap (λ (xs : List SearchLeaf). length xs) come in
     let cut = length-take runs all in
     let many = picked_length fs in
     let is : runs ≡ length ls = omega (arith, within, as_many, cut) in

@@ -9,7 +9,7 @@ use Rattle.mpd_model.specs.steps.Next.{next}
 use Rattle.mpd_model.specs.runs.Decisions.{CanFollow}
 use Rattle.mpd_model.specs.runs.Trail.{Trail, Standing, IsReached, done_steps, gone_back, applied}
 use Rattle.mpd_policy.specs.Wide.{wide_decision}
-use Rattle.mpd_explore.specs.declared.report.Leaf.{Leaf}
+use Rattle.mpd_explore.specs.declared.report.SearchLeaf.{SearchLeaf}
 use Rattle.mpd_explore.proofs.ListLemmas.{reverse_pushed}
 use Rattle.mpd_explore.proofs.SearchLemmas.{Went, Came}
 use Rattle.mpd_outcomes.specs.declared.table.Table.{Table}
@@ -32,14 +32,14 @@ use Rattle.mpd_outcomes.proofs.TellLemmas.{tells_one}
 use Rattle.mpd_outcomes.proofs.StackLemmas.{opened_before}
 
 -- the innermost open choice is taken off
-pub popped_after : (s : Search) (rest all : List Open) (top : Open) (ways : List Leaf) (sums : Sums) (t : Table) (d : Standing) → all ≡ rest ++ top ∷ [] → After s (reverse all) ways sums t d → After s (top ∷ reverse rest) ways sums t d
+pub popped_after : (s : Search) (rest all : List Open) (top : Open) (ways : List SearchLeaf) (sums : Sums) (t : Table) (d : Standing) → all ≡ rest ++ top ∷ [] → After s (reverse all) ways sums t d → After s (top ∷ reverse rest) ways sums t d
 popped_after s rest all top ways sums t d items h = subst (λ (fs : List Open). After s fs ways sums t d) (reverse_pushed rest all top items) h
 
 pub popped_come : (s : Search) (rest all : List Open) (top : Open) (path : List Step) → all ≡ rest ++ top ∷ [] → come_to s (top ∷ reverse rest) path ≡ come_to s (reverse all) path
 popped_come s rest all top path items = ap (λ (fs : List Open). come_to s fs path) (sym (reverse_pushed rest all top items))
 
 -- and put on
-pub pushed_before : (s : Search) (rest all : List Open) (top : Open) (ways : List Leaf) (sums : Sums) (t : Table) (d : Standing) → all ≡ rest ++ top ∷ [] → Before s (top ∷ reverse rest) ways sums t d → Before s (reverse all) ways sums t d
+pub pushed_before : (s : Search) (rest all : List Open) (top : Open) (ways : List SearchLeaf) (sums : Sums) (t : Table) (d : Standing) → all ≡ rest ++ top ∷ [] → Before s (top ∷ reverse rest) ways sums t d → Before s (reverse all) ways sums t d
 pushed_before s rest all top ways sums t d items h = subst (λ (fs : List Open). Before s fs ways sums t d) (sym (reverse_pushed rest all top items)) h
 
 -- a candidate of a choice is enabled
@@ -76,7 +76,7 @@ recalled_after s f g d key depth h at key_is r =
     let deep : depth + found.height ≡ d.trail.depth + height (s.limit - d.trail.depth) d.world = (let high = serves_is.1 in omega (arith, at, high)) in
     let after = found_after s (open_in f) f.ways.items f.sums g.sums f.table d found.tally (depth + found.height) h serves_is.0 deep joined.counts joined.total joined.deepest in
     subst (λ (t : Table). After s (open_in g) g.ways.items g.sums t d) (sym r.6)
-    (subst (λ (os : List Open). After s os g.ways.items g.sums f.table d) (ap reverse (sym joined.stack)) (subst (λ (ws : List Leaf). After s (open_in f) ws g.sums f.table d) (sym joined.ways_are) after))
+    (subst (λ (os : List Open). After s os g.ways.items g.sums f.table d) (ap reverse (sym joined.stack)) (subst (λ (ws : List SearchLeaf). After s (open_in f) ws g.sums f.table d) (sym joined.ways_are) after))
 
 -- a choice was opened, and its first candidate taken
 pub opened_in : (s : Search) (f g : Front) (d e : Standing) (key : Option (Vec ℤ Global)) (depth : ℕ) (candidates : List Step) (a : Step) → BeforeIn s f d → depth ≡ d.trail.depth → IfSome key (λ k. IsKey d.trail.program d.world k.items)
@@ -90,7 +90,7 @@ opened_in s f g d e key depth candidates a h at key_is choice room first o went 
     (o.deepest ∙ ap suc at)
     in
     subst (λ (t : Table). Before s (open_in g) g.ways.items g.sums t e) (sym o.table)
-    (subst (λ (ws : List Leaf). Before s (open_in g) ws g.sums f.table e) (sym o.ways_are) (pushed_before s f.stack.items g.stack.items opened f.ways.items g.sums f.table e o.stack.1 new))
+    (subst (λ (ws : List SearchLeaf). Before s (open_in g) ws g.sums f.table e) (sym o.ways_are) (pushed_before s f.stack.items g.stack.items opened f.ways.items g.sums f.table e o.stack.1 new))
 
 -- the end of a run is told
 pub noted_after : (s : Search) (f g : Front) (d : Standing) (ending : Ending) (depth : ℕ) → BeforeIn s f d → depth ≡ d.trail.depth → leaves_from (s.limit - d.trail.depth) d.world ≡ only_leaf ending ∷ []

@@ -5,7 +5,7 @@ use Rattle.mpd_model.specs.declared.decision.Decision.TheVariants.{Choice}
 use Rattle.mpd_model.specs.steps.World.{World, start}
 use Rattle.mpd_model.specs.steps.Next.{next, fold}
 use Rattle.mpd_policy.specs.Wide.{wide_decision}
-use Rattle.mpd_explore.specs.declared.report.Leaf.{Leaf}
+use Rattle.mpd_explore.specs.declared.report.SearchLeaf.{SearchLeaf}
 use Rattle.mpd_outcomes.specs.Height.{height, height_of, highest}
 use Rattle.mpd_outcomes.specs.declared.report.Count.{Count}
 use Rattle.mpd_outcomes.specs.declared.table.Table.{Table}
@@ -20,17 +20,17 @@ use Rattle.mpd_outcomes.proofs.WalkLemmas.{leaves_choice, height_choice, tried_m
 
 -- ---- leaves with choices before them
 
-pub put_none : (ls : List Leaf) → map (put []) ls ≡ ls
+pub put_none : (ls : List SearchLeaf) → map (put []) ls ≡ ls
 put_none [] = refl
-put_none (l ∷ ls) = ap (λ (xs : List Leaf). l ∷ xs) (put_none ls)
+put_none (l ∷ ls) = ap (λ (xs : List SearchLeaf). l ∷ xs) (put_none ls)
 
-put_twice : (cs ds : List ℕ) (ls : List Leaf) → map (put cs) (map (put ds) ls) ≡ map (put (cs ++ ds)) ls
+put_twice : (cs ds : List ℕ) (ls : List SearchLeaf) → map (put cs) (map (put ds) ls) ≡ map (put (cs ++ ds)) ls
 put_twice cs ds [] = refl
 put_twice cs ds (l ∷ ls) = λ j. record { choices = sym (append_assoc cs ds l.choices) j; ending = l.ending } ∷ put_twice cs ds ls j
 
-pub put_joined : (cs : List ℕ) (xs ys : List Leaf) → map (put cs) (xs ++ ys) ≡ map (put cs) xs ++ map (put cs) ys
+pub put_joined : (cs : List ℕ) (xs ys : List SearchLeaf) → map (put cs) (xs ++ ys) ≡ map (put cs) xs ++ map (put cs) ys
 put_joined cs [] ys = refl
-put_joined cs (x ∷ xs) ys = ap (λ (l : List Leaf). put cs x ∷ l) (put_joined cs xs ys)
+put_joined cs (x ∷ xs) ys = ap (λ (l : List SearchLeaf). put cs x ∷ l) (put_joined cs xs ys)
 
 fuel_left : (limit depth : ℕ) → depth < limit → limit - depth ≡ suc (limit - suc depth)
 fuel_left limit depth room = omega (arith, room)
@@ -50,7 +50,7 @@ module _ (s : Search) (f : Open) (w : World) (depth : ℕ) (v : World) (h : IsOp
 
   -- one candidate more
   tried_too_is : tried s w (next_one f) ≡ tried s w f ++ map (put (f.index ∷ [])) (leaves_from (s.limit - depth) v)
-  tried_too_is = tried_more (s.limit - suc f.depth) w f.index f.candidates h.step h.taken ∙ ap (λ (ls : List Leaf). tried s w f ++ map (put (f.index ∷ [])) ls) taken_leaves
+  tried_too_is = tried_more (s.limit - suc f.depth) w f.index f.candidates h.step h.taken ∙ ap (λ (ls : List SearchLeaf). tried s w f ++ map (put (f.index ∷ [])) ls) taken_leaves
 
   deepest_too : suc f.depth + highest (height (s.limit - suc f.depth)) w (take (suc f.index) f.candidates)
       ≡ max (suc f.depth + highest (height (s.limit - suc f.depth)) w (take f.index f.candidates)) (depth + height (s.limit - depth) v)
@@ -66,10 +66,10 @@ come_at : (s : Search) (f : Open) (fs : List Open) (path : List Step) (w : World
     → come_to s (f ∷ fs) path ≡ before s (f ∷ fs) path ++ map (put (picked (f ∷ fs))) (leaves_from (s.limit - depth) v)
 come_at s f fs path w depth v at h =
     ap (λ (o : Option World). before s fs (take f.depth path) ++ map (put (picked fs)) (tried_at s (next_one f) o)) at
-    ∙ ap (λ (ls : List Leaf). before s fs (take f.depth path) ++ map (put (picked fs)) ls) (tried_too_is s f w depth v h)
-    ∙ ap (λ (ls : List Leaf). before s fs (take f.depth path) ++ ls)
+    ∙ ap (λ (ls : List SearchLeaf). before s fs (take f.depth path) ++ map (put (picked fs)) ls) (tried_too_is s f w depth v h)
+    ∙ ap (λ (ls : List SearchLeaf). before s fs (take f.depth path) ++ ls)
     (put_joined (picked fs) (tried s w f) (map (put (f.index ∷ [])) (leaves_from (s.limit - depth) v))
-    ∙ ap (λ (ls : List Leaf). map (put (picked fs)) (tried s w f) ++ ls) (put_twice (picked fs) (f.index ∷ []) (leaves_from (s.limit - depth) v)))
+    ∙ ap (λ (ls : List SearchLeaf). map (put (picked fs)) (tried s w f) ++ ls) (put_twice (picked fs) (f.index ∷ []) (leaves_from (s.limit - depth) v)))
     ∙ sym (append_assoc (before s fs (take f.depth path)) (map (put (picked fs)) (tried s w f)) (map (put (picked (f ∷ fs))) (leaves_from (s.limit - depth) v)))
     ∙ ap (λ (o : Option World). (before s fs (take f.depth path) ++ map (put (picked fs)) (tried_at s f o)) ++ map (put (picked (f ∷ fs))) (leaves_from (s.limit - depth) v)) (sym at)
 
@@ -79,18 +79,18 @@ come_is s (f ∷ fs) path depth v h = come_at s f fs path h.0 depth v h.1 h.2
 
 -- ---- what is told with those from here
 
-pub told_after : (s : Search) (ways : List Leaf) (fs : List Open) (path : List Step) (depth : ℕ) (v : World) (sums new : Sums) (ts : List Count) (tc : Count) (deep : ℕ)
+pub told_after : (s : Search) (ways : List SearchLeaf) (fs : List Open) (path : List Step) (depth : ℕ) (v : World) (sums new : Sums) (ts : List Count) (tc : Count) (deep : ℕ)
     → Stands s fs path depth v → AllTold s ways fs path sums → TellsCounts ways ts tc (leaves_from (s.limit - depth) v) → deep ≡ depth + height (s.limit - depth) v
     → new.tally.counts.items ≡ added sums.tally.counts.items ts → new.tally.total ≡ plus sums.tally.total tc → new.deepest ≡ max sums.deepest deep
     → AllToldAfter s ways fs path new
 told_after s ways [] path depth v sums new ts tc deep h told tells at counts total deepest =
     record {
-      counts = subst (λ (ls : List Leaf). Tells ways new.tally ls) (sym h.1.leaves)
+      counts = subst (λ (ls : List SearchLeaf). Tells ways new.tally ls) (sym h.1.leaves)
           (rewritten ways new.tally.counts.items _ new.tally.total _ (leaves_from (s.limit - depth) v) counts total
           (tells_joined ways sums.tally.counts.items ts sums.tally.total tc [] (leaves_from (s.limit - depth) v) told tells));
     }
   where
-    rewritten : (ways : List Leaf) (cs ds : List Count) (c d : Count) (ls : List Leaf) → cs ≡ ds → c ≡ d → TellsCounts ways ds d ls → TellsCounts ways cs c ls
+    rewritten : (ways : List SearchLeaf) (cs ds : List Count) (c d : Count) (ls : List SearchLeaf) → cs ≡ ds → c ≡ d → TellsCounts ways ds d ls → TellsCounts ways cs c ls
     rewritten ways cs ds c d ls e g k = subst (λ (x : List Count). TellsCounts ways x c ls) (sym e) (subst (λ (x : Count). TellsCounts ways ds x ls) (sym g) k)
 told_after s ways (f ∷ fs) path depth v sums new ts tc deep h told tells at counts total deepest =
     let w = h.0 in
@@ -101,19 +101,19 @@ told_after s ways (f ∷ fs) path depth v sums new ts tc deep h told tells at co
     (tells_put ways ts tc (f.index ∷ []) (leaves_from (s.limit - depth) v) tells)
     in (
       subst (λ (o : Option World). TellsAt s ways (next_one f) o new) (sym h.1) (record {
-        counts = subst (λ (ls : List Leaf). Tells ways new.tally ls) (sym (tried_too_is s f w depth v is))
+        counts = subst (λ (ls : List SearchLeaf). Tells ways new.tally ls) (sym (tried_too_is s f w depth v is))
             (rewritten new.tally.counts.items (added sums.tally.counts.items ts) new.tally.total (plus sums.tally.total tc) _ counts total joined);
         deepest = (let d = here.deepest in let more = deepest_too s f w depth v is in omega (arith, deepest, d, at, more));
       }),
       told.1,
     )
   where
-    rewritten : (cs ds : List Count) (c d : Count) (ls : List Leaf) → cs ≡ ds → c ≡ d → TellsCounts ways ds d ls → TellsCounts ways cs c ls
+    rewritten : (cs ds : List Count) (c d : Count) (ls : List SearchLeaf) → cs ≡ ds → c ≡ d → TellsCounts ways ds d ls → TellsCounts ways cs c ls
     rewritten cs ds c d ls e g k = subst (λ (x : List Count). TellsCounts ways x c ls) (sym e) (subst (λ (x : Count). TellsCounts ways ds x ls) (sym g) k)
 
 -- ---- more ways
 
-pub told_grown : (s : Search) (ways : List Leaf) (leaf : Leaf) → has_end ways leaf.ending ≡ false → (fs : List Open) (path : List Step) (sums : Sums) → AllTold s ways fs path sums → AllTold s (ways ++ leaf ∷ []) fs path sums
+pub told_grown : (s : Search) (ways : List SearchLeaf) (leaf : SearchLeaf) → has_end ways leaf.ending ≡ false → (fs : List Open) (path : List Step) (sums : Sums) → AllTold s ways fs path sums → AllTold s (ways ++ leaf ∷ []) fs path sums
 told_grown s ways leaf new [] path sums h = tells_grown ways sums.tally.counts.items sums.tally.total [] leaf new h
 told_grown s ways leaf new (f ∷ fs) path sums h = (at (fold (start s.program s.mode) (take f.depth path)) h.0, told_grown s ways leaf new fs (take f.depth path) f.outer h.1)
   where
@@ -121,7 +121,7 @@ told_grown s ways leaf new (f ∷ fs) path sums h = (at (fold (start s.program s
     at None k = k
     at (Some w) k = record { counts = tells_grown ways sums.tally.counts.items sums.tally.total (tried s w f) leaf new k.counts; deepest = k.deepest }
 
-pub table_grown : (s : Search) (ways : List Leaf) (leaf : Leaf) → has_end ways leaf.ending ≡ false → (t : Table) → IsTrueTable s ways t → IsTrueTable s (ways ++ leaf ∷ []) t
+pub table_grown : (s : Search) (ways : List SearchLeaf) (leaf : SearchLeaf) → has_end ways leaf.ending ≡ false → (t : Table) → IsTrueTable s ways t → IsTrueTable s (ways ++ leaf ∷ []) t
 table_grown s ways leaf new t h = λ key found at w run is.
     let k = h key found at w run is in
     record { counts = tells_grown ways found.tally.counts.items found.tally.total (leaves_from found.fuel w) leaf new k.counts; height_is = k.height_is }

@@ -12,7 +12,7 @@ use Rattle.mpd_policy.specs.Wide.{wide_decision}
 use Rattle.mpd_policy.specs.declared.ending.Ending.{Ending}
 use Rattle.mpd_policy.specs.Walks.{Beyond}
 use Rattle.mpd_policy.proofs.WalkLemmas.{length-done_steps}
-use Rattle.mpd_explore.specs.declared.report.Leaf.{Leaf}
+use Rattle.mpd_explore.specs.declared.report.SearchLeaf.{SearchLeaf}
 use Rattle.mpd_explore.specs.Report.{shown}
 use Rattle.mpd_outcomes.specs.Height.{height}
 use Rattle.mpd_outcomes.specs.StateLaws.{IsRunTo}
@@ -81,7 +81,7 @@ before_on s [] path more m u long h = refl
 before_on s (f ∷ fs) path more m u long h =
     ap (λ (p : List Step). before s fs p ++ map (put (picked fs)) (tried_at s f (fold (start s.program s.mode) p))) (take_on f.depth path more (let lt = h.2.above in omega (arith, lt, long)))
 
-told_on : (s : Search) (ways : List Leaf) (fs : List Open) (path more : List Step) (m : ℕ) (u : World) (sums : Sums) → length path ≡ m → Stands s fs path m u → AllTold s ways fs path sums → AllTold s ways fs (path ++ more) sums
+told_on : (s : Search) (ways : List SearchLeaf) (fs : List Open) (path more : List Step) (m : ℕ) (u : World) (sums : Sums) → length path ≡ m → Stands s fs path m u → AllTold s ways fs path sums → AllTold s ways fs (path ++ more) sums
 told_on s ways [] path more m u sums long h told = told
 told_on s ways (f ∷ fs) path more m u sums long h told =
     subst (λ (p : List Step). TellsAt s ways f (fold (start s.program s.mode) p) sums × AllTold s ways fs p f.outer) (sym (take_on f.depth path more (let lt = h.2.above in omega (arith, lt, long)))) told
@@ -118,7 +118,7 @@ pub down_come : (s : Search) (fs : List Open) (d e : Standing) → At s fs d →
 down_come s fs d e at beyond = ap (before s fs) beyond.done_steps_are ∙ before_on s fs (done_steps d.trail) beyond.path d.trail.depth d.world (at_length s fs d at) at.stands
 
 -- the way down
-pub gone_down : (s : Search) (fs : List Open) (ways : List Leaf) (sums : Sums) (t : Table) (d e : Standing) → Before s fs ways sums t d → Beyond d e
+pub gone_down : (s : Search) (fs : List Open) (ways : List SearchLeaf) (sums : Sums) (t : Table) (d e : Standing) → Before s fs ways sums t d → Beyond d e
     → SameRuns s.limit d.trail.depth d.world e.trail.depth e.world → d.trail.depth ≤ e.trail.depth → e.trail.depth ≤ s.limit → Before s fs ways sums t e
 gone_down s fs ways sums t d e h beyond same le within =
     let at = h.at in
@@ -140,17 +140,17 @@ gone_down s fs ways sums t d e h beyond same le within =
 
 -- ---- a state whose runs are told
 
-within_before : (s : Search) (fs : List Open) (path : List Step) (ways ls : List Leaf) → ways ≡ firsts (before s fs path) → list_all (λ (m : Leaf). has_end ways m.ending) ls ≡ true
-    → list_all (λ (m : Leaf). has_end (before s fs path) m.ending) ls ≡ true
+within_before : (s : Search) (fs : List Open) (path : List Step) (ways ls : List SearchLeaf) → ways ≡ firsts (before s fs path) → list_all (λ (m : SearchLeaf). has_end ways m.ending) ls ≡ true
+    → list_all (λ (m : SearchLeaf). has_end (before s fs path) m.ending) ls ≡ true
 within_before s fs path ways ls is h =
-    (λ j. list_all (λ (m : Leaf). sym (ap (λ (ws : List Leaf). has_end ws m.ending) is ∙ firsts_ends (before s fs path) m.ending) j) ls) ∙ h
+    (λ j. list_all (λ (m : SearchLeaf). sym (ap (λ (ws : List SearchLeaf). has_end ws m.ending) is ∙ firsts_ends (before s fs path) m.ending) j) ls) ∙ h
 
-within_put : (ws : List Leaf) (cs : List ℕ) (ls : List Leaf) → list_all (λ (m : Leaf). has_end ws m.ending) (map (put cs) ls) ≡ list_all (λ (m : Leaf). has_end ws m.ending) ls
+within_put : (ws : List SearchLeaf) (cs : List ℕ) (ls : List SearchLeaf) → list_all (λ (m : SearchLeaf). has_end ws m.ending) (map (put cs) ls) ≡ list_all (λ (m : SearchLeaf). has_end ws m.ending) ls
 within_put ws cs [] = refl
 within_put ws cs (l ∷ ls) = ap (λ (b : Bool). has_end ws l.ending && b) (within_put ws cs ls)
 
 -- by what was found of its key
-pub found_after : (s : Search) (fs : List Open) (ways : List Leaf) (sums new : Sums) (t : Table) (d : Standing) (tally : Tally) (deep : ℕ) → Before s fs ways sums t d
+pub found_after : (s : Search) (fs : List Open) (ways : List SearchLeaf) (sums new : Sums) (t : Table) (d : Standing) (tally : Tally) (deep : ℕ) → Before s fs ways sums t d
     → Tells ways tally (leaves_from (s.limit - d.trail.depth) d.world) → deep ≡ d.trail.depth + height (s.limit - d.trail.depth) d.world
     → new.tally.counts.items ≡ added sums.tally.counts.items tally.counts.items → new.tally.total ≡ plus sums.tally.total tally.total → new.deepest ≡ max sums.deepest deep
     → After s fs ways new t d
@@ -167,7 +167,7 @@ found_after s fs ways sums new t d tally deep h tells at counts total deepest =
     }
 
 -- what is kept serves
-pub serves_here : (s : Search) (ways : List Leaf) (found : Found) (w : World) (fuel : ℕ) → IsFound s ways found w → serves found fuel ≡ true → Tells ways found.tally (leaves_from fuel w) × (found.height ≡ height fuel w)
+pub serves_here : (s : Search) (ways : List SearchLeaf) (found : Found) (w : World) (fuel : ℕ) → IsFound s ways found w → serves found fuel ≡ true → Tells ways found.tally (leaves_from fuel w) × (found.height ≡ height fuel w)
 serves_here s ways found w fuel h e =
     elim (or_cases ((found.fuel == fuel) && nat_le found.height (fuel + 1)) (nat_le found.height found.fuel && nat_le found.height fuel) e) [
       | inl same ↦
@@ -179,7 +179,7 @@ serves_here s ways found w fuel h e =
           let enough : found.height ≤ fuel = leb-true found.height fuel parts.1 in
           let at = h.height_is in
           let more = enough_for found.fuel fuel w (omega (arith, under, at)) (omega (arith, enough, at)) in
-          (subst (λ (ls : List Leaf). Tells ways found.tally ls) (sym (ap (map shown) more.0)) h.counts, h.height_is ∙ sym more.1)
+          (subst (λ (ls : List SearchLeaf). Tells ways found.tally ls) (sym (ap (map shown) more.0)) h.counts, h.height_is ∙ sym more.1)
     ]
 
 pub serves_low : (found : Found) (fuel : ℕ) → serves found fuel ≡ true → found.height ≤ fuel + 1
@@ -191,10 +191,10 @@ serves_low found fuel e =
 
 -- ---- the end of a run
 
-ways_by : (ways : List Leaf) (cs : List ℕ) (e : Ending) (b : Bool) → has_end ways e ≡ b → ways_with ways cs e ≡ cond b ways (ways ++ record { choices = cs; ending = e } ∷ [])
+ways_by : (ways : List SearchLeaf) (cs : List ℕ) (e : Ending) (b : Bool) → has_end ways e ≡ b → ways_with ways cs e ≡ cond b ways (ways ++ record { choices = cs; ending = e } ∷ [])
 ways_by ways cs e b is = ap (λ (t : Bool). cond t ways (ways ++ record { choices = cs; ending = e } ∷ [])) is
 
-pub known_ways : (ways : List Leaf) (cs : List ℕ) (e : Ending) → has_end ways e ≡ true → ways ≡ ways_with ways cs e
+pub known_ways : (ways : List SearchLeaf) (cs : List ℕ) (e : Ending) → has_end ways e ≡ true → ways ≡ ways_with ways cs e
 known_ways ways cs e is = sym (ways_by ways cs e true is)
 
 -- the leaf of a run that ends there
@@ -202,11 +202,11 @@ pub end_come : (s : Search) (fs : List Open) (d : Standing) (ending : Ending) �
     → come_to s fs (done_steps d.trail) ≡ before s fs (done_steps d.trail) ++ record { choices = picked fs; ending = ending } ∷ []
 end_come s fs d ending at only =
     let path = done_steps d.trail in
-    let leaf : Leaf = record { choices = picked fs; ending = ending } in
+    let leaf : SearchLeaf = record { choices = picked fs; ending = ending } in
     let put_leaf : map (put (picked fs)) (only_leaf ending ∷ []) ≡ leaf ∷ [] = λ j. record { choices = append-nil (picked fs) j; ending = ending } ∷ [] in
-    come_is s fs path d.trail.depth d.world at.stands ∙ ap (λ (ls : List Leaf). before s fs path ++ map (put (picked fs)) ls) only ∙ ap (λ (ls : List Leaf). before s fs path ++ ls) put_leaf
+    come_is s fs path d.trail.depth d.world at.stands ∙ ap (λ (ls : List SearchLeaf). before s fs path ++ map (put (picked fs)) ls) only ∙ ap (λ (ls : List SearchLeaf). before s fs path ++ ls) put_leaf
 
-pub end_after : (s : Search) (fs : List Open) (ways new_ways : List Leaf) (sums new : Sums) (t : Table) (d : Standing) (ending : Ending) (deep : ℕ) (ones : List Count) (one : Count) → Before s fs ways sums t d
+pub end_after : (s : Search) (fs : List Open) (ways new_ways : List SearchLeaf) (sums new : Sums) (t : Table) (d : Standing) (ending : Ending) (deep : ℕ) (ones : List Count) (one : Count) → Before s fs ways sums t d
     → leaves_from (s.limit - d.trail.depth) d.world ≡ only_leaf ending ∷ [] → deep ≡ d.trail.depth + height (s.limit - d.trail.depth) d.world
     → new_ways ≡ ways_with ways (picked fs) ending → ((AllApart new_ways) → TellsCounts new_ways ones one (only_leaf ending ∷ []))
     → new.tally.counts.items ≡ added sums.tally.counts.items ones → new.tally.total ≡ plus sums.tally.total one → new.deepest ≡ max sums.deepest deep
@@ -216,33 +216,33 @@ end_after s fs ways new_ways sums new t d ending deep ones one h only at ways_ar
     path : List Step
     path = done_steps d.trail
 
-    leaf : Leaf
+    leaf : SearchLeaf
     leaf = record { choices = picked fs; ending = ending }
 
     known_is : has_end (before s fs path) ending ≡ has_end ways ending
-    known_is = sym (ap (λ (ws : List Leaf). has_end ws ending) h.ways_are ∙ firsts_ends (before s fs path) ending)
+    known_is = sym (ap (λ (ws : List SearchLeaf). has_end ws ending) h.ways_are ∙ firsts_ends (before s fs path) ending)
 
     come : come_to s fs path ≡ before s fs path ++ leaf ∷ []
     come = end_come s fs d ending h.at only
 
-    after_with : (ws : List Leaf) → AllTold s ws fs path sums → IsTrueTable s ws t → TellsCounts ws ones one (only_leaf ending ∷ []) → ws ≡ firsts (come_to s fs path) → After s fs ws new t d
+    after_with : (ws : List SearchLeaf) → AllTold s ws fs path sums → IsTrueTable s ws t → TellsCounts ws ones one (only_leaf ending ∷ []) → ws ≡ firsts (come_to s fs path) → After s fs ws new t d
     after_with ws told table told_one are = record {
       at = h.at;
       ways_are = are;
-      told = told_after s ws fs path d.trail.depth d.world sums new ones one deep h.at.stands told (subst (λ (ls : List Leaf). TellsCounts ws ones one ls) (sym only) told_one) at counts total deepest;
+      told = told_after s ws fs path d.trail.depth d.world sums new ones one deep h.at.stands told (subst (λ (ls : List SearchLeaf). TellsCounts ws ones one ls) (sym only) told_one) at counts total deepest;
       table = table;
     }
 
-    apart_of : (ws : List Leaf) → ws ≡ firsts (come_to s fs path) → AllApart ws
+    apart_of : (ws : List SearchLeaf) → ws ≡ firsts (come_to s fs path) → AllApart ws
     apart_of ws are = subst AllApart (sym are) (firsts_apart (come_to s fs path))
 
     by_end : (b : Bool) → has_end ways ending ≡ b → After s fs new_ways new t d
     by_end true is =
         let ws : new_ways ≡ ways = ways_are ∙ ways_by ways (picked fs) ending true is in
         let are : new_ways ≡ firsts (come_to s fs path) = ws ∙ h.ways_are ∙ sym (ap firsts come ∙ firsts_known (before s fs path) (leaf ∷ []) (λ j. (known_is ∙ is) j && true)) in
-        after_with new_ways (subst (λ (x : List Leaf). AllTold s x fs path sums) (sym ws) h.told) (subst (λ (x : List Leaf). IsTrueTable s x t) (sym ws) h.table) (tells (apart_of new_ways are)) are
+        after_with new_ways (subst (λ (x : List SearchLeaf). AllTold s x fs path sums) (sym ws) h.told) (subst (λ (x : List SearchLeaf). IsTrueTable s x t) (sym ws) h.table) (tells (apart_of new_ways are)) are
     by_end false is =
         let ws : new_ways ≡ ways ++ leaf ∷ [] = ways_are ∙ ways_by ways (picked fs) ending false is in
-        let are : new_ways ≡ firsts (come_to s fs path) = ws ∙ ap (λ (x : List Leaf). x ++ leaf ∷ []) h.ways_are ∙ sym (ap firsts come ∙ firsts_new (before s fs path) leaf (known_is ∙ is)) in
-        after_with new_ways (subst (λ (x : List Leaf). AllTold s x fs path sums) (sym ws) (told_grown s ways leaf is fs path sums h.told))
-        (subst (λ (x : List Leaf). IsTrueTable s x t) (sym ws) (table_grown s ways leaf is t h.table)) (tells (apart_of new_ways are)) are
+        let are : new_ways ≡ firsts (come_to s fs path) = ws ∙ ap (λ (x : List SearchLeaf). x ++ leaf ∷ []) h.ways_are ∙ sym (ap firsts come ∙ firsts_new (before s fs path) leaf (known_is ∙ is)) in
+        after_with new_ways (subst (λ (x : List SearchLeaf). AllTold s x fs path sums) (sym ws) (told_grown s ways leaf is fs path sums h.told))
+        (subst (λ (x : List SearchLeaf). IsTrueTable s x t) (sym ws) (table_grown s ways leaf is t h.table)) (tells (apart_of new_ways are)) are

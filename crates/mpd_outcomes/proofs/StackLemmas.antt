@@ -11,7 +11,7 @@ use Rattle.mpd_model.specs.steps.World.{World, start}
 use Rattle.mpd_model.specs.steps.Next.{fold}
 use Rattle.mpd_model.specs.runs.Trail.{Standing, IsReached, done_steps}
 use Rattle.mpd_policy.specs.Wide.{wide_decision}
-use Rattle.mpd_explore.specs.declared.report.Leaf.{Leaf}
+use Rattle.mpd_explore.specs.declared.report.SearchLeaf.{SearchLeaf}
 use Rattle.mpd_explore.specs.Search.{Safe}
 use Rattle.mpd_explore.proofs.SearchLemmas.{Went, Came}
 use Rattle.mpd_outcomes.specs.Height.{height, highest}
@@ -124,11 +124,11 @@ opened_come s f fs d e a at here first went =
     let cut = path_cut d e f a (at_length s fs d at) here went in
     let there : fold (start s.program s.mode) (take f.depth (done_steps e.trail)) ≡ Some d.world = ap (fold (start s.program s.mode)) cut ∙ leads_there s fs d at in
     (λ j. before s fs (cut j) ++ map (put (picked fs)) (tried_at s f (there j)))
-    ∙ ap (λ (ls : List Leaf). before s fs (done_steps d.trail) ++ map (put (picked fs)) ls) (nothing_tried s f d.world first)
+    ∙ ap (λ (ls : List SearchLeaf). before s fs (done_steps d.trail) ++ map (put (picked fs)) ls) (nothing_tried s f d.world first)
     ∙ append-nil (before s fs (done_steps d.trail))
 
 -- at its first candidate
-pub opened_before : (s : Search) (f : Open) (fs : List Open) (ways : List Leaf) (sums new : Sums) (t : Table) (d e : Standing) (a : Step) → Before s fs ways sums t d → f.depth ≡ d.trail.depth → f.index ≡ 0 → f.outer ≡ sums
+pub opened_before : (s : Search) (f : Open) (fs : List Open) (ways : List SearchLeaf) (sums new : Sums) (t : Table) (d e : Standing) (a : Step) → Before s fs ways sums t d → f.depth ≡ d.trail.depth → f.index ≡ 0 → f.outer ≡ sums
     → wide_decision d.world ≡ Choice f.candidates → IfSome f.key (λ k. IsKey s.program d.world k.items) → d.trail.depth < s.limit → slice_get f.candidates 0 ≡ Some a → Went d a e
     → new.tally.counts.items ≡ [] → new.tally.total ≡ Exactly 0 → new.deepest ≡ suc d.trail.depth → Before s (f ∷ fs) ways new t e
 opened_before s f fs ways sums new t d e a h here first outer choice key room taken went counts total deepest =
@@ -140,7 +140,7 @@ opened_before s f fs ways sums new t d e a h here first outer choice key room ta
       ways_are = h.ways_are ∙ sym (ap firsts (opened_come s f fs d e a at here first went));
       told = (
         subst (λ (o : Option World). TellsAt s ways f o new) (sym there) (record {
-          counts = subst (λ (ls : List Leaf). Tells ways new.tally ls) (sym (nothing_tried s f d.world first))
+          counts = subst (λ (ls : List SearchLeaf). Tells ways new.tally ls) (sym (nothing_tried s f d.world first))
               (subst (λ (cs : List Count). TellsCounts ways cs new.tally.total []) (sym counts) (subst (λ (c : Count). TellsCounts ways [] c []) (sym total) (tells_none ways)));
           deepest = (let none = ap (λ (n : ℕ). highest (height (s.limit - suc f.depth)) d.world (take n f.candidates)) first in omega (arith, deepest, here, none));
         }),
@@ -181,7 +181,7 @@ next_come s f fs d e k a at came went =
     λ j. before s fs (cut j) ++ map (put (picked fs)) (tried_at s (next_one f) (fold (start s.program s.mode) (cut j)))
 
 -- the next candidate is taken
-pub next_before : (s : Search) (f g : Open) (fs : List Open) (ways : List Leaf) (sums : Sums) (t : Table) (d e k : Standing) (a : Step) → (h : After s (f ∷ fs) ways sums t d) → Came d f.depth e → g ≡ next_one f
+pub next_before : (s : Search) (f g : Open) (fs : List Open) (ways : List SearchLeaf) (sums : Sums) (t : Table) (d e k : Standing) (a : Step) → (h : After s (f ∷ fs) ways sums t d) → Came d f.depth e → g ≡ next_one f
     → slice_get f.candidates (suc f.index) ≡ Some a → Went e a k → Before s (g ∷ fs) ways sums t k
 next_before s f g fs ways sums t d e k a h came is taken went =
     let at = h.at in
@@ -199,7 +199,7 @@ next_before s f g fs ways sums t d e k a h came is taken went =
 
 -- ---- a choice is closed
 
-module _ (s : Search) (f : Open) (fs : List Open) (ways : List Leaf) (sums : Sums) (t : Table) (d : Standing) (h : After s (f ∷ fs) ways sums t d) (last : length f.candidates ≤ suc f.index) where
+module _ (s : Search) (f : Open) (fs : List Open) (ways : List SearchLeaf) (sums : Sums) (t : Table) (d : Standing) (h : After s (f ∷ fs) ways sums t d) (last : length f.candidates ≤ suc f.index) where
   abbrev pub closed_world : World
   closed_world = h.at.stands.0
 
@@ -215,7 +215,7 @@ module _ (s : Search) (f : Open) (fs : List Open) (ways : List Leaf) (sums : Sum
   -- all runs from there are told
   pub closed_tells : Tells ways sums.tally (leaves_from (s.limit - f.depth) closed_world)
   closed_tells =
-      subst (λ (ls : List Leaf). Tells ways sums.tally ls) (ap (λ (cs : List Step). leaves_by (s.limit - suc f.depth) closed_world 0 cs) all_taken ∙ sym (leaves_at s closed_world f.candidates f.depth is_open.fuel is_open.choice)) told_here.counts
+      subst (λ (ls : List SearchLeaf). Tells ways sums.tally ls) (ap (λ (cs : List Step). leaves_by (s.limit - suc f.depth) closed_world 0 cs) all_taken ∙ sym (leaves_at s closed_world f.candidates f.depth is_open.fuel is_open.choice)) told_here.counts
 
   pub closed_deep : sums.deepest ≡ f.depth + height (s.limit - f.depth) closed_world
   closed_deep =
@@ -232,7 +232,7 @@ module _ (s : Search) (f : Open) (fs : List Open) (ways : List Leaf) (sums : Sum
       let one = one_walk s.program s.mode closed_world v w_run run future (s.limit - f.depth) in
       let deep = closed_deep in
       record {
-        counts = subst (λ (ls : List Leaf). Tells ways found.tally ls) (ap (map shown) one.walk_same ∙ ap (λ (n : ℕ). leaves_from n v) (sym fuel_is)) (subst (λ (y : Tally). Tells ways y (leaves_from (s.limit - f.depth) closed_world)) (sym tally_is) closed_tells);
+        counts = subst (λ (ls : List SearchLeaf). Tells ways found.tally ls) (ap (map shown) one.walk_same ∙ ap (λ (n : ℕ). leaves_from n v) (sym fuel_is)) (subst (λ (y : Tally). Tells ways y (leaves_from (s.limit - f.depth) closed_world)) (sym tally_is) closed_tells);
         height_is = height_is ∙ (omega (arith, deep)) ∙ one.height_same ∙ ap (λ (n : ℕ). height n v) (sym fuel_is);
       }
 
@@ -242,7 +242,7 @@ module _ (s : Search) (f : Open) (fs : List Open) (ways : List Leaf) (sums : Sum
       let path = take f.depth (done_steps d.trail) in
       ap (λ (o : Option World). before s fs path ++ map (put (picked fs)) (tried_at s (next_one f) o)) h.at.stands.1
       ∙ ap (λ (cs : List Step). before s fs path ++ map (put (picked fs)) (leaves_by (s.limit - suc f.depth) closed_world 0 cs)) all_taken
-      ∙ ap (λ (ls : List Leaf). before s fs path ++ map (put (picked fs)) ls) (sym (leaves_at s closed_world f.candidates f.depth is_open.fuel is_open.choice))
+      ∙ ap (λ (ls : List SearchLeaf). before s fs path ++ map (put (picked fs)) ls) (sym (leaves_at s closed_world f.candidates f.depth is_open.fuel is_open.choice))
       ∙ sym (come_is s fs path f.depth closed_world h.at.stands.3)
       ∙ ap (come_to s fs) (sym came.done_steps_are)
 
@@ -269,7 +269,7 @@ module _ (s : Search) (f : Open) (fs : List Open) (ways : List Leaf) (sums : Sum
   closed_below = let deep = closed_deep in omega (arith, deep)
 
 -- what is kept, and what was found now
-pub table_kept : (s : Search) (ways : List Leaf) (t u : Table) (key : Vec ℤ Global) (found : Found) → IsTrueTable s ways t → ((v : World) → IsRunTo s.program s.mode v → IsKey s.program v key.items → IsFound s ways found v)
+pub table_kept : (s : Search) (ways : List SearchLeaf) (t u : Table) (key : Vec ℤ Global) (found : Found) → IsTrueTable s ways t → ((v : World) → IsRunTo s.program s.mode v → IsKey s.program v key.items → IsFound s ways found v)
     → KeepsAPart t key found u → IsTrueTable s ways u
 table_kept s ways t u key found old new kept = λ q f at v run is.
     elim (kept q f at) [
@@ -281,18 +281,18 @@ table_kept s ways t u key found old new kept = λ q f at v run is.
     items_same k q e = (slice_eq-Decides Decides-int_eq k.items q.items (key_eq k q) refl).0 e
 
 -- where there is a key
-pub table_kept_by : (s : Search) (ways : List Leaf) (t u : Table) (key : Option (Vec ℤ Global)) (found : Found) → IsTrueTable s ways t → ((k : Vec ℤ Global) → key ≡ Some k → (v : World) → IsRunTo s.program s.mode v → IsKey s.program v k.items → IsFound s ways found v)
+pub table_kept_by : (s : Search) (ways : List SearchLeaf) (t u : Table) (key : Option (Vec ℤ Global)) (found : Found) → IsTrueTable s ways t → ((k : Vec ℤ Global) → key ≡ Some k → (v : World) → IsRunTo s.program s.mode v → IsKey s.program v k.items → IsFound s ways found v)
     → KeptBy t key found u → IsTrueTable s ways u
 table_kept_by s ways t u None found old new kept = subst (IsTrueTable s ways) (sym kept) old
 table_kept_by s ways t u (Some key) found old new kept = table_kept s ways t u key found old (new key refl) kept
 
 -- a table that keeps less
-pub less_before : (s : Search) (fs : List Open) (ways : List Leaf) (sums : Sums) (t u : Table) (d : Standing) → KeepsLess t u → Before s fs ways sums t d → Before s fs ways sums u d
+pub less_before : (s : Search) (fs : List Open) (ways : List SearchLeaf) (sums : Sums) (t u : Table) (d : Standing) → KeepsLess t u → Before s fs ways sums t d → Before s fs ways sums u d
 less_before s fs ways sums t u d less h = record { at = h.at; ways_are = h.ways_are; told = h.told; table = λ key found at. h.table key found (less key found at) }
 
 -- ---- the beginning
 
-pub begun : (s : Search) (ways : List Leaf) (sums : Sums) (t : Table) (d : Standing) → d.trail.program ≡ s.program → d.trail.mode ≡ s.mode → IsReached d → d.world ≡ s.root → s.base ≡ d.trail.depth → d.trail.depth ≤ s.limit
+pub begun : (s : Search) (ways : List SearchLeaf) (sums : Sums) (t : Table) (d : Standing) → d.trail.program ≡ s.program → d.trail.mode ≡ s.mode → IsReached d → d.world ≡ s.root → s.base ≡ d.trail.depth → d.trail.depth ≤ s.limit
     → ways ≡ [] → sums.tally.counts.items ≡ [] → sums.tally.total ≡ Exactly 0 → ((key : Vec ℤ Global) → found_at t key ≡ None) → Before s [] ways sums t d
 begun s ways sums t d program mode reached world base within none counts total empty = record {
   at = record {
@@ -313,7 +313,7 @@ begun s ways sums t d program mode reached world base within none counts total e
 -- ---- what is left
 
 pub left_over : (s : Search) (fs : List Open) (path : List Step) (depth : ℕ) (v : World) → Stands s fs path depth v
-    → (rest : List Leaf) × (leaves_from (s.limit - s.base) s.root ≡ before s fs path ++ (map (put (picked fs)) (leaves_from (s.limit - depth) v) ++ rest))
+    → (rest : List SearchLeaf) × (leaves_from (s.limit - s.base) s.root ≡ before s fs path ++ (map (put (picked fs)) (leaves_from (s.limit - depth) v) ++ rest))
 left_over s [] path depth v h = ([], h.1.leaves ∙ sym (append-nil (map (put []) (leaves_from (s.limit - depth) v)) ∙ put_none (leaves_from (s.limit - depth) v)))
 left_over s (f ∷ fs) path depth v h =
     let w = h.0 in
@@ -325,11 +325,11 @@ left_over s (f ∷ fs) path depth v h =
     in (
       map (put (picked fs)) others ++ up.0,
       up.1
-          ∙ ap (λ (ls : List Leaf). before s fs (take f.depth path) ++ (map (put (picked fs)) ls ++ up.0)) whole
-          ∙ ap (λ (ls : List Leaf). before s fs (take f.depth path) ++ (ls ++ up.0)) (put_joined (picked fs) (tried s w (next_one f)) others)
-          ∙ ap (λ (ls : List Leaf). before s fs (take f.depth path) ++ ls) (append_assoc (map (put (picked fs)) (tried s w (next_one f))) (map (put (picked fs)) others) up.0)
+          ∙ ap (λ (ls : List SearchLeaf). before s fs (take f.depth path) ++ (map (put (picked fs)) ls ++ up.0)) whole
+          ∙ ap (λ (ls : List SearchLeaf). before s fs (take f.depth path) ++ (ls ++ up.0)) (put_joined (picked fs) (tried s w (next_one f)) others)
+          ∙ ap (λ (ls : List SearchLeaf). before s fs (take f.depth path) ++ ls) (append_assoc (map (put (picked fs)) (tried s w (next_one f))) (map (put (picked fs)) others) up.0)
           ∙ sym (append_assoc (before s fs (take f.depth path)) (map (put (picked fs)) (tried s w (next_one f))) (map (put (picked fs)) others ++ up.0))
           ∙ ap (λ (o : Option World). (before s fs (take f.depth path) ++ map (put (picked fs)) (tried_at s (next_one f) o)) ++ (map (put (picked fs)) others ++ up.0)) (sym h.1)
-          ∙ ap (λ (ls : List Leaf). ls ++ (map (put (picked fs)) others ++ up.0)) (come_is s (f ∷ fs) path depth v h)
+          ∙ ap (λ (ls : List SearchLeaf). ls ++ (map (put (picked fs)) others ++ up.0)) (come_is s (f ∷ fs) path depth v h)
           ∙ append_assoc (before s (f ∷ fs) path) (map (put (picked (f ∷ fs))) (leaves_from (s.limit - depth) v)) (map (put (picked fs)) others ++ up.0),
     )

@@ -8,7 +8,7 @@ use Rattle.std.proofs.lemmas.List.Elements.{filter-append}
 use Rattle.std.proofs.lemmas.List.Folds.{list_any-append, list_all-append}
 use Rattle.std.proofs.lemmas.Option.{slice_get_within}
 use Rattle.mpd_policy.specs.declared.ending.Ending.{Ending}
-use Rattle.mpd_explore.specs.declared.report.Leaf.{Leaf}
+use Rattle.mpd_explore.specs.declared.report.SearchLeaf.{SearchLeaf}
 use Rattle.mpd_outcomes.specs.declared.report.Count.{Count}
 use Rattle.mpd_outcomes.specs.declared.report.Count.TheVariants.{Exactly, More}
 use Rattle.mpd_explore.specs.Ends.{ending_eq, same_end, times, has_end}
@@ -43,9 +43,9 @@ read_at [] i x lt e = absurd (omega (arith, lt))
 read_at {A = A} (y ∷ ys) zero x lt e = ap (λ (z : A). Some z) (sym e)
 read_at (y ∷ ys) (suc i) x lt e = read_at ys i x (omega (arith, lt)) e
 
-pub ends_more : (ls : List Leaf) (e : Ending) (n : ℕ) (x : Leaf) → slice_get ls n ≡ Some x → has_end (take n ls) e ≡ false → ending_eq x.ending e ≡ false → has_end (take (suc n) ls) e ≡ false
+pub ends_more : (ls : List SearchLeaf) (e : Ending) (n : ℕ) (x : SearchLeaf) → slice_get ls n ≡ Some x → has_end (take n ls) e ≡ false → ending_eq x.ending e ≡ false → has_end (take (suc n) ls) e ≡ false
 ends_more [] e n x at was un = absurd (cc)
-ends_more (l ∷ ls) e zero x at was un = let is : l ≡ x = cc in (λ j. ending_eq (ap (λ (z : Leaf). z.ending) is j) e || false) ∙ (λ j. un j || false)
+ends_more (l ∷ ls) e zero x at was un = let is : l ≡ x = cc in (λ j. ending_eq (ap (λ (z : SearchLeaf). z.ending) is j) e || false) ∙ (λ j. un j || false)
 ends_more (l ∷ ls) e (suc n) x at was un =
     let parts = none_of (ending_eq l.ending e) (has_end (take n ls) e) was in
     λ j. parts.0 j || ends_more ls e n x at parts.1 un j
@@ -70,10 +70,10 @@ none_counted n e = by (nat_lt n (2 ^ 64)) refl
 
 -- ---- how many end so
 
-times_joined : (xs ys : List Leaf) (l : Leaf) → times (xs ++ ys) l ≡ times xs l + times ys l
-times_joined xs ys l = ap (λ (ls : List Leaf). length ls) (filter-append (same_end l) xs ys) ∙ length-append (filter (same_end l) xs) (filter (same_end l) ys)
+times_joined : (xs ys : List SearchLeaf) (l : SearchLeaf) → times (xs ++ ys) l ≡ times xs l + times ys l
+times_joined xs ys l = ap (λ (ls : List SearchLeaf). length ls) (filter-append (same_end l) xs ys) ∙ length-append (filter (same_end l) xs) (filter (same_end l) ys)
 
-times_put : (cs : List ℕ) (xs : List Leaf) (l : Leaf) → times (map (put cs) xs) l ≡ times xs l
+times_put : (cs : List ℕ) (xs : List SearchLeaf) (l : SearchLeaf) → times (map (put cs) xs) l ≡ times xs l
 times_put cs [] l = refl
 times_put cs (x ∷ xs) l = one (same_end l x) (times_put cs xs l)
   where
@@ -154,26 +154,26 @@ one_length (suc k) = ap suc (one_length k)
 
 -- ---- what is told
 
-pub tells_none : (ways : List Leaf) → TellsCounts ways [] (Exactly 0) []
+pub tells_none : (ways : List SearchLeaf) → TellsCounts ways [] (Exactly 0) []
 tells_none ways = record { few = omega arith; counts = λ k l e. refl; within = refl; total_is = refl }
 
-pub tells_joined : (ways : List Leaf) (cs ds : List Count) (c d : Count) (xs ys : List Leaf) → TellsCounts ways cs c xs → TellsCounts ways ds d ys → TellsCounts ways (added cs ds) (plus c d) (xs ++ ys)
+pub tells_joined : (ways : List SearchLeaf) (cs ds : List Count) (c d : Count) (xs ys : List SearchLeaf) → TellsCounts ways cs c xs → TellsCounts ways ds d ys → TellsCounts ways (added cs ds) (plus c d) (xs ++ ys)
 tells_joined ways cs ds c d xs ys h k = record {
   few = added_length cs ds (length ways) h.few k.few;
   counts = λ n l e. added_at cs ds n (times xs l) (times ys l) (h.counts n l e) (k.counts n l e) ∙ ap counted (sym (times_joined xs ys l));
-  within = list_all-append (λ (m : Leaf). has_end ways m.ending) xs ys ∙ (λ j. h.within j && k.within j);
+  within = list_all-append (λ (m : SearchLeaf). has_end ways m.ending) xs ys ∙ (λ j. h.within j && k.within j);
   total_is = (λ j. plus (h.total_is j) (k.total_is j)) ∙ plus_counted (length xs) (length ys) ∙ ap counted (sym (length-append xs ys));
 }
 
-within_put : (ways : List Leaf) (ps : List ℕ) (xs : List Leaf) → list_all (λ (m : Leaf). has_end ways m.ending) (map (put ps) xs) ≡ list_all (λ (m : Leaf). has_end ways m.ending) xs
+within_put : (ways : List SearchLeaf) (ps : List ℕ) (xs : List SearchLeaf) → list_all (λ (m : SearchLeaf). has_end ways m.ending) (map (put ps) xs) ≡ list_all (λ (m : SearchLeaf). has_end ways m.ending) xs
 within_put ways ps [] = refl
 within_put ways ps (x ∷ xs) = ap (λ (b : Bool). has_end ways x.ending && b) (within_put ways ps xs)
 
-length_put : (ps : List ℕ) (xs : List Leaf) → length (map (put ps) xs) ≡ length xs
+length_put : (ps : List ℕ) (xs : List SearchLeaf) → length (map (put ps) xs) ≡ length xs
 length_put ps [] = refl
 length_put ps (x ∷ xs) = ap suc (length_put ps xs)
 
-pub tells_put : (ways : List Leaf) (cs : List Count) (c : Count) (ps : List ℕ) (xs : List Leaf) → TellsCounts ways cs c xs → TellsCounts ways cs c (map (put ps) xs)
+pub tells_put : (ways : List SearchLeaf) (cs : List Count) (c : Count) (ps : List ℕ) (xs : List SearchLeaf) → TellsCounts ways cs c xs → TellsCounts ways cs c (map (put ps) xs)
 tells_put ways cs c ps xs h = record {
   few = h.few;
   counts = λ k l e. h.counts k l e ∙ ap counted (sym (times_put ps xs l));
@@ -181,16 +181,16 @@ tells_put ways cs c ps xs h = record {
   total_is = h.total_is ∙ ap counted (sym (length_put ps xs));
 }
 
-pub any_at : (ls : List Leaf) (e : Ending) (k : ℕ) (l : Leaf) → slice_get ls k ≡ Some l → ending_eq l.ending e ≡ true → has_end ls e ≡ true
+pub any_at : (ls : List SearchLeaf) (e : Ending) (k : ℕ) (l : SearchLeaf) → slice_get ls k ≡ Some l → ending_eq l.ending e ≡ true → has_end ls e ≡ true
 any_at [] e k l is at = absurd (cc)
-any_at (x ∷ xs) e zero l is at = let here : x ≡ l = cc in (λ j. ending_eq (ap (λ (z : Leaf). z.ending) here j) e || has_end xs e) ∙ (λ j. at j || has_end xs e)
+any_at (x ∷ xs) e zero l is at = let here : x ≡ l = cc in (λ j. ending_eq (ap (λ (z : SearchLeaf). z.ending) here j) e || has_end xs e) ∙ (λ j. at j || has_end xs e)
 any_at (x ∷ xs) e (suc k) l is at = ap (λ (b : Bool). ending_eq x.ending e || b) (any_at xs e k l is at) ∙ or_true (ending_eq x.ending e)
   where
     or_true : (a : Bool) → (a || true) ≡ true
     or_true true = refl
     or_true false = refl
 
-pub tells_one : (ways : List Leaf) → AllApart ways → (leaf : Leaf) (k : ℕ) → IsWay ways leaf.ending k → TellsCounts ways (one_at k) (Exactly 1) (leaf ∷ [])
+pub tells_one : (ways : List SearchLeaf) → AllApart ways → (leaf : SearchLeaf) (k : ℕ) → IsWay ways leaf.ending k → TellsCounts ways (one_at k) (Exactly 1) (leaf ∷ [])
 tells_one ways apart leaf k way = record {
   few = (let within = slice_get_within ways k way.0 way.1 in let long = one_length k in omega (arith, within, long));
   counts = λ j l e. at j l e (same_end l leaf) refl;
@@ -198,14 +198,14 @@ tells_one ways apart leaf k way = record {
   total_is = refl;
 }
   where
-    at : (j : ℕ) (l : Leaf) → slice_get ways j ≡ Some l → (b : Bool) → same_end l leaf ≡ b → count_at (one_at k) j ≡ counted (times (leaf ∷ []) l)
+    at : (j : ℕ) (l : SearchLeaf) → slice_get ways j ≡ Some l → (b : Bool) → same_end l leaf ≡ b → count_at (one_at k) j ≡ counted (times (leaf ∷ []) l)
     at j l e true is =
         let ends : l.ending ≡ leaf.ending = ending_same l.ending leaf.ending is in
         let same : same_end l way.0 ≡ true = ap (λ (z : Ending). ending_eq l.ending z) (ending_same way.0.ending leaf.ending way.2 ∙ sym ends) ∙ ending_each l.ending in
         let here : j ≡ k = one_place ways apart j k l way.0 e way.1 same in
         ap (λ (n : ℕ). count_at (one_at k) n) here ∙ one_here k ∙ sym (ap (λ (b : Bool). counted (length (cond b (leaf ∷ []) []))) is)
     at j l e false is =
-        one_elsewhere k j (λ here. clash (ap (λ (z : Leaf). same_end z leaf) (there here) ∙ is))
+        one_elsewhere k j (λ here. clash (ap (λ (z : SearchLeaf). same_end z leaf) (there here) ∙ is))
         ∙ sym (ap (λ (b : Bool). counted (length (cond b (leaf ∷ []) []))) is)
       where
         there : j ≡ k → way.0 ≡ l
@@ -215,10 +215,10 @@ tells_one ways apart leaf k way = record {
         clash f = let t = way.2 in cc
 
 -- a way that no leaf goes
-none_so : (ways : List Leaf) (leaf : Leaf) → has_end ways leaf.ending ≡ false → (ls : List Leaf) → list_all (λ (m : Leaf). has_end ways m.ending) ls ≡ true → times ls leaf ≡ 0
+none_so : (ways : List SearchLeaf) (leaf : SearchLeaf) → has_end ways leaf.ending ≡ false → (ls : List SearchLeaf) → list_all (λ (m : SearchLeaf). has_end ways m.ending) ls ≡ true → times ls leaf ≡ 0
 none_so ways leaf new [] h = refl
 none_so ways leaf new (m ∷ ms) h =
-    let parts = and_parts (has_end ways m.ending) (list_all (λ (m : Leaf). has_end ways m.ending) ms) h in
+    let parts = and_parts (has_end ways m.ending) (list_all (λ (m : SearchLeaf). has_end ways m.ending) ms) h in
     one (same_end leaf m) refl parts.0 (none_so ways leaf new ms parts.1)
   where
     one : (b : Bool) → same_end leaf m ≡ b → has_end ways m.ending ≡ true → times ms leaf ≡ 0 → length (cond b (m ∷ filter (same_end leaf) ms) (filter (same_end leaf) ms)) ≡ 0
@@ -228,11 +228,11 @@ none_so ways leaf new (m ∷ ms) h =
         clash t f = cc
     one false is there more = more
 
-more_ways : (ways : List Leaf) (leaf : Leaf) (ls : List Leaf) → list_all (λ (m : Leaf). has_end ways m.ending) ls ≡ true → list_all (λ (m : Leaf). has_end (ways ++ leaf ∷ []) m.ending) ls ≡ true
+more_ways : (ways : List SearchLeaf) (leaf : SearchLeaf) (ls : List SearchLeaf) → list_all (λ (m : SearchLeaf). has_end ways m.ending) ls ≡ true → list_all (λ (m : SearchLeaf). has_end (ways ++ leaf ∷ []) m.ending) ls ≡ true
 more_ways ways leaf [] h = refl
 more_ways ways leaf (m ∷ ms) h =
-    let parts = and_parts (has_end ways m.ending) (list_all (λ (m : Leaf). has_end ways m.ending) ms) h in
-    λ j. (list_any-append (λ (l : Leaf). ending_eq l.ending m.ending) ways (leaf ∷ []) ∙ ap (λ (b : Bool). b || has_end (leaf ∷ []) m.ending) parts.0) j && more_ways ways leaf ms parts.1 j
+    let parts = and_parts (has_end ways m.ending) (list_all (λ (m : SearchLeaf). has_end ways m.ending) ms) h in
+    λ j. (list_any-append (λ (l : SearchLeaf). ending_eq l.ending m.ending) ways (leaf ∷ []) ∙ ap (λ (b : Bool). b || has_end (leaf ∷ []) m.ending) parts.0) j && more_ways ways leaf ms parts.1 j
 
 at_end : {A : Type 0} (xs : List A) (x y : A) (k : ℕ) → slice_get (xs ++ x ∷ []) k ≡ Some y → (slice_get xs k ≡ Some y) ⊎ ((length xs ≡ k) × (x ≡ y))
 at_end [] x y zero e = inr (refl, cc)
@@ -244,7 +244,7 @@ at_end (z ∷ zs) x y (suc k) e =
       | inr new ↦ inr (ap suc new.0, new.1)
     ]
 
-pub tells_grown : (ways : List Leaf) (cs : List Count) (c : Count) (ls : List Leaf) (leaf : Leaf) → has_end ways leaf.ending ≡ false → TellsCounts ways cs c ls → TellsCounts (ways ++ leaf ∷ []) cs c ls
+pub tells_grown : (ways : List SearchLeaf) (cs : List Count) (c : Count) (ls : List SearchLeaf) (leaf : SearchLeaf) → has_end ways leaf.ending ≡ false → TellsCounts ways cs c ls → TellsCounts (ways ++ leaf ∷ []) cs c ls
 tells_grown ways cs c ls leaf new h = record {
   few = (let long = length-append ways (leaf ∷ []) in let few = h.few in omega (arith, long, few));
   counts = λ k l e.
@@ -258,11 +258,11 @@ tells_grown ways cs c ls leaf new h = record {
 
 -- ---- in the end
 
-all_zero : (g : Leaf → Count) (ways : List Leaf) → ((k : ℕ) (l : Leaf) → slice_get ways k ≡ Some l → count_at [] k ≡ g l) → replicate (length ways) (Exactly 0) ≡ map g ways
+all_zero : (g : SearchLeaf → Count) (ways : List SearchLeaf) → ((k : ℕ) (l : SearchLeaf) → slice_get ways k ≡ Some l → count_at [] k ≡ g l) → replicate (length ways) (Exactly 0) ≡ map g ways
 all_zero g [] h = refl
 all_zero g (l ∷ ls) h = λ j. h 0 l refl j ∷ all_zero g ls (λ k m e. h (suc k) m e) j
 
-pub all_counted : (g : Leaf → Count) (cs : List Count) (ways : List Leaf) → length cs ≤ length ways → ((k : ℕ) (l : Leaf) → slice_get ways k ≡ Some l → count_at cs k ≡ g l) → cs ++ replicate (length ways - length cs) (Exactly 0) ≡ map g ways
+pub all_counted : (g : SearchLeaf → Count) (cs : List Count) (ways : List SearchLeaf) → length cs ≤ length ways → ((k : ℕ) (l : SearchLeaf) → slice_get ways k ≡ Some l → count_at cs k ≡ g l) → cs ++ replicate (length ways - length cs) (Exactly 0) ≡ map g ways
 all_counted g [] ways few h = ap (λ (n : ℕ). replicate n (Exactly 0)) nothing_less ∙ all_zero g ways h
   where
     nothing_less : length ways - 0 ≡ length ways

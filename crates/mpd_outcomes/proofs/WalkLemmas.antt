@@ -12,7 +12,7 @@ use Rattle.mpd_model.specs.runs.Trail.{step_eq}
 use Rattle.mpd_policy.specs.Wide.{wide_decision, sleeps_on}
 use Rattle.mpd_policy.specs.Walk.{Run, stepped, chosen, runs_of, branches, followed, stopped, wide_walk}
 use Rattle.mpd_policy.specs.declared.ending.Ending.TheVariants.{Ended, Cut}
-use Rattle.mpd_explore.specs.declared.report.Leaf.{Leaf}
+use Rattle.mpd_explore.specs.declared.report.SearchLeaf.{SearchLeaf}
 use Rattle.mpd_explore.specs.Report.{shown}
 use Rattle.mpd_explore.proofs.AwakeLemmas.{awake_some, no_wide_sleeps}
 use Rattle.mpd_outcomes.specs.Height.{height, height_of, highest, height_by, height_stopped}
@@ -41,7 +41,7 @@ height_empty w d h = ap height_stopped h
 
 shown_stepped : (a : Step) (rs : List Run) → map shown (map (stepped a) rs) ≡ map shown rs
 shown_stepped a [] = refl
-shown_stepped a (r ∷ rs) = ap (λ (l : List Leaf). shown r ∷ l) (shown_stepped a rs)
+shown_stepped a (r ∷ rs) = ap (λ (l : List SearchLeaf). shown r ∷ l) (shown_stepped a rs)
 
 pub leaves_forced : (n : ℕ) (w v : World) (a : Step) → wide_decision w ≡ Forced a → next w a ≡ Some v → leaves_from (suc n) w ≡ leaves_from n v
 leaves_forced n w v a d s = ap (map shown) (wide_is n w (Forced a) d ∙ ap (λ (o : Option World). map (stepped a) (runs_of (wide_walk n) o)) s) ∙ shown_stepped a (wide_walk n v)
@@ -81,7 +81,7 @@ map_joined f (x ∷ xs) ys = ap (λ l. f x ∷ l) (map_joined f xs ys)
 
 shown_chosen : (i : ℕ) (a : Step) (rs : List Run) → map shown (map (chosen i a) rs) ≡ map (put (i ∷ [])) (map shown rs)
 shown_chosen i a [] = refl
-shown_chosen i a (r ∷ rs) = ap (λ (l : List Leaf). shown (chosen i a r) ∷ l) (shown_chosen i a rs)
+shown_chosen i a (r ∷ rs) = ap (λ (l : List SearchLeaf). shown (chosen i a r) ∷ l) (shown_chosen i a rs)
 
 shown_of : (n : ℕ) (o : Option World) → map shown (runs_of (wide_walk n) o) ≡ leaves_of n o
 shown_of n None = refl
@@ -103,7 +103,7 @@ by_more n w i zero (c ∷ cs) a e =
     number_here = omega arith
 by_more n w i (suc k) (c ∷ cs) a e =
     by_first n w i c (take (suc k) cs)
-    ∙ ap (λ (l : List Leaf). map (put (i ∷ [])) (leaves_of n (next w c)) ++ l) (by_more n w (suc i) k cs a e)
+    ∙ ap (λ (l : List SearchLeaf). map (put (i ∷ [])) (leaves_of n (next w c)) ++ l) (by_more n w (suc i) k cs a e)
     ∙ sym (append_assoc (map (put (i ∷ [])) (leaves_of n (next w c))) (leaves_by n w (suc i) (take k cs)) (map (put ((suc i + k) ∷ [])) (leaves_of n (next w a))))
     ∙ (λ j. sym (by_first n w i c (take k cs)) j ++ map (put (next_number j ∷ [])) (leaves_of n (next w a)))
   where
@@ -133,7 +133,7 @@ by_parts n w k candidates le = from n w 0 k candidates le ∙ (λ j. leaves_by n
     from n w i (suc k) [] le = absurd (omega (arith, le))
     from n w i (suc k) (c ∷ cs) le =
         by_first n w i c cs
-        ∙ ap (λ (l : List Leaf). map (put (i ∷ [])) (leaves_of n (next w c)) ++ l) (from n w (suc i) k cs (omega (arith, le)))
+        ∙ ap (λ (l : List SearchLeaf). map (put (i ∷ [])) (leaves_of n (next w c)) ++ l) (from n w (suc i) k cs (omega (arith, le)))
         ∙ sym (append_assoc (map (put (i ∷ [])) (leaves_of n (next w c))) (leaves_by n w (suc i) (take k cs)) (leaves_by n w (suc i + k) (drop k cs)))
         ∙ (λ j. sym (by_first n w i c (take k cs)) j ++ leaves_by n w (next_number j) (drop k cs))
       where

@@ -12,7 +12,7 @@ use Rattle.mpd_policy.specs.Wide.{wide_decision}
 use Rattle.mpd_policy.specs.Walk.{branches, wide_walk}
 use Rattle.mpd_policy.specs.declared.ending.Ending.{Ending}
 use Rattle.mpd_policy.specs.declared.ending.Ending.TheVariants.{Ended, Cut}
-use Rattle.mpd_explore.specs.declared.report.Leaf.{Leaf}
+use Rattle.mpd_explore.specs.declared.report.SearchLeaf.{SearchLeaf}
 use Rattle.mpd_explore.specs.Report.{shown}
 use Rattle.mpd_outcomes.specs.Height.{height, highest}
 use Rattle.mpd_outcomes.specs.StateLaws.{IsRunTo}
@@ -47,7 +47,7 @@ abbrev pub search_of : Bounds → Trail → World → Search
 search_of b t root = record { program = t.program; mode = t.mode; root = root; base = b.base; limit = b.limit }
 
 -- a leaf with choices before it
-abbrev pub put : List ℕ → Leaf → Leaf
+abbrev pub put : List ℕ → SearchLeaf → SearchLeaf
 put cs l = record { choices = cs ++ l.choices; ending = l.ending }
 
 -- The open choices come innermost first. The candidates that are taken at them, in the order in which they were opened.
@@ -56,21 +56,21 @@ picked [] = []
 picked (f ∷ fs) = picked fs ++ f.index ∷ []
 
 -- the leaves by some candidates, of which the first is number i, with so much fuel after them
-abbrev pub leaves_by : ℕ → World → ℕ → List Step → List Leaf
+abbrev pub leaves_by : ℕ → World → ℕ → List Step → List SearchLeaf
 leaves_by n w i candidates = map shown (branches (wide_walk n) w i candidates)
 
 -- the leaves of a state that is there
-abbrev pub leaves_of : ℕ → Option World → List Leaf
+abbrev pub leaves_of : ℕ → Option World → List SearchLeaf
 leaves_of n None = []
 leaves_of n (Some w) = leaves_from n w
 
 -- ---- open choices
 
 -- the leaves by the candidates of an open choice that were tried, and by those that come after the one that is taken
-abbrev pub tried : Search → World → Open → List Leaf
+abbrev pub tried : Search → World → Open → List SearchLeaf
 tried s w f = leaves_by (s.limit - suc f.depth) w 0 (take f.index f.candidates)
 
-abbrev pub untried : Search → World → Open → List Leaf
+abbrev pub untried : Search → World → Open → List SearchLeaf
 untried s w f = leaves_by (s.limit - suc f.depth) w (suc f.index) (drop (suc f.index) f.candidates)
 
 -- with the candidate that is taken tried too
@@ -100,35 +100,35 @@ Stands s [] path depth v = (s.base ≤ depth) × SameRuns s.limit s.base s.root 
 Stands s (f ∷ fs) path depth v = (w : World) × (fold (start s.program s.mode) (take f.depth path) ≡ Some w) × IsOpen s f w depth v × Stands s fs (take f.depth path) f.depth w
 
 -- what is told of each level: of the candidates of an open choice that were tried, and of none where no choice is open
-pub record TellsTried (s : Search) (ways : List Leaf) (f : Open) (w : World) (sums : Sums) : Type 0 where
+pub record TellsTried (s : Search) (ways : List SearchLeaf) (f : Open) (w : World) (sums : Sums) : Type 0 where
   pub counts : Tells ways sums.tally (tried s w f)
   pub deepest : sums.deepest ≡ suc f.depth + highest (height (s.limit - suc f.depth)) w (take f.index f.candidates)
 
-abbrev pub TellsAt : Search → List Leaf → Open → Option World → Sums → Type 0
+abbrev pub TellsAt : Search → List SearchLeaf → Open → Option World → Sums → Type 0
 TellsAt s ways f None sums = ⊥
 TellsAt s ways f (Some w) sums = TellsTried s ways f w sums
 
-abbrev pub AllTold : Search → List Leaf → List Open → List Step → Sums → Type 0
+abbrev pub AllTold : Search → List SearchLeaf → List Open → List Step → Sums → Type 0
 AllTold s ways [] path sums = Tells ways sums.tally []
 AllTold s ways (f ∷ fs) path sums = TellsAt s ways f (fold (start s.program s.mode) (take f.depth path)) sums × AllTold s ways fs (take f.depth path) f.outer
 
 -- the leaves that were come to
-abbrev pub tried_at : Search → Open → Option World → List Leaf
+abbrev pub tried_at : Search → Open → Option World → List SearchLeaf
 tried_at s f None = []
 tried_at s f (Some w) = tried s w f
 
-abbrev pub before : Search → List Open → List Step → List Leaf
+abbrev pub before : Search → List Open → List Step → List SearchLeaf
 before s [] path = []
 before s (f ∷ fs) path = before s fs (take f.depth path) ++ map (put (picked fs)) (tried_at s f (fold (start s.program s.mode) (take f.depth path)))
 
 -- ---- the table
 
 -- What is kept under a key is true of each state of that key.
-pub record IsFound (s : Search) (ways : List Leaf) (found : Found) (w : World) : Type 0 where
+pub record IsFound (s : Search) (ways : List SearchLeaf) (found : Found) (w : World) : Type 0 where
   pub counts : Tells ways found.tally (leaves_from found.fuel w)
   pub height_is : found.height ≡ height found.fuel w
 
-abbrev pub IsTrueTable : Search → List Leaf → Table → Type 0
+abbrev pub IsTrueTable : Search → List SearchLeaf → Table → Type 0
 IsTrueTable s ways t = (key : Vec ℤ Global) (found : Found) → found_at t key ≡ Some found → (w : World) → IsRunTo s.program s.mode w → IsKey s.program w key.items → IsFound s ways found w
 
 -- ---- where it stands
@@ -142,7 +142,7 @@ pub record At (s : Search) (fs : List Open) (d : Standing) : Type 0 where
   pub stands : Stands s fs (done_steps d.trail) d.trail.depth d.world
 
 -- At a state whose runs are not come to yet: the ways are those of the leaves before them, and what is told is of those.
-pub record Before (s : Search) (fs : List Open) (ways : List Leaf) (sums : Sums) (t : Table) (d : Standing) : Type 0 where
+pub record Before (s : Search) (fs : List Open) (ways : List SearchLeaf) (sums : Sums) (t : Table) (d : Standing) : Type 0 where
   pub at : At s fs d
   pub ways_are : ways ≡ firsts (before s fs (done_steps d.trail))
   pub told : AllTold s ways fs (done_steps d.trail) sums
@@ -154,19 +154,19 @@ tried_too [] = []
 tried_too (f ∷ fs) = next_one f ∷ fs
 
 -- what is told of all runs, where no choice is open
-pub record TellsAll (s : Search) (ways : List Leaf) (sums : Sums) : Type 0 where
+pub record TellsAll (s : Search) (ways : List SearchLeaf) (sums : Sums) : Type 0 where
   pub counts : Tells ways sums.tally (leaves_from (s.limit - s.base) s.root)
 
 -- At a state whose runs are come to: those by the candidate that is taken are told, and where no choice is open all are.
-abbrev pub AllToldAfter : Search → List Leaf → List Open → List Step → Sums → Type 0
+abbrev pub AllToldAfter : Search → List SearchLeaf → List Open → List Step → Sums → Type 0
 AllToldAfter s ways [] path sums = TellsAll s ways sums
 AllToldAfter s ways (f ∷ fs) path sums = AllTold s ways (next_one f ∷ fs) path sums
 
-abbrev pub come_to : Search → List Open → List Step → List Leaf
+abbrev pub come_to : Search → List Open → List Step → List SearchLeaf
 come_to s [] path = leaves_from (s.limit - s.base) s.root
 come_to s (f ∷ fs) path = before s (next_one f ∷ fs) path
 
-pub record After (s : Search) (fs : List Open) (ways : List Leaf) (sums : Sums) (t : Table) (d : Standing) : Type 0 where
+pub record After (s : Search) (fs : List Open) (ways : List SearchLeaf) (sums : Sums) (t : Table) (d : Standing) : Type 0 where
   pub at : At s fs d
   pub ways_are : ways ≡ firsts (come_to s fs (done_steps d.trail))
   pub told : AllToldAfter s ways fs (done_steps d.trail) sums
@@ -190,7 +190,7 @@ pub record DoneIn (s : Search) (f : Front) : Type 0 where
 
 -- ---- a way down
 
-abbrev pub only_leaf : Ending → Leaf
+abbrev pub only_leaf : Ending → SearchLeaf
 only_leaf e = record { choices = []; ending = e }
 
 -- how many steps a run has beyond where it ends: one where it is cut
@@ -212,7 +212,7 @@ pub record Down (limit : ℕ) (d : Standing) (a : Arrived) (e : Standing) : Type
 -- ---- its moves
 
 -- the ways with one more, where a run ends in a new one
-abbrev pub ways_with : List Leaf → List ℕ → Ending → List Leaf
+abbrev pub ways_with : List SearchLeaf → List ℕ → Ending → List SearchLeaf
 ways_with ways choices e = if has_end ways e then ways else ways ++ record { choices = choices; ending = e } ∷ []
 
 -- a run that ends at a depth is told
@@ -268,13 +268,13 @@ Turned s true g e = BeforeIn s g e
 Turned s false g e = DoneIn s g
 
 -- the leaves that were come to where it stands; all of them where none are left
-abbrev pub come_now : Search → Bool → Front → Standing → List Leaf
+abbrev pub come_now : Search → Bool → Front → Standing → List SearchLeaf
 come_now s true g e = before s (open_in g) (done_steps e.trail)
 come_now s false g e = leaves_from (s.limit - s.base) s.root
 
 -- no way is new, or one is, and it is that of the last leaf that was come to
-abbrev pub Grows : List Leaf → List Leaf → List Leaf → List Leaf → Type 0
-Grows ways new ls more = (new ≡ ways) ⊎ ((l : Leaf) × (new ≡ ways ++ l ∷ []) × (more ≡ ls ++ l ∷ []))
+abbrev pub Grows : List SearchLeaf → List SearchLeaf → List SearchLeaf → List SearchLeaf → Type 0
+Grows ways new ls more = (new ≡ ways) ⊎ ((l : SearchLeaf) × (new ≡ ways ++ l ∷ []) × (more ≡ ls ++ l ∷ []))
 
 -- how many states stand along the leaves that were come to, and those at which a choice is open
 abbrev pub states_now : Search → Bool → Front → Standing → ℕ

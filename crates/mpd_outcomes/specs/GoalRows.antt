@@ -4,7 +4,7 @@ use Rattle.std.specs.List.{list_any}
 use Rattle.mpd_model.specs.declared.outcome.Outcome.TheVariants as outcome_is
 use Rattle.mpd_policy.specs.declared.ending.Ending.{Ending}
 use Rattle.mpd_policy.specs.declared.ending.Ending.TheVariants.{Ended, Cut}
-use Rattle.mpd_explore.specs.declared.report.Leaf.{Leaf}
+use Rattle.mpd_explore.specs.declared.report.SearchLeaf.{SearchLeaf}
 use Rattle.mpd_outcomes.specs.declared.report.Goal.{Goal}
 use Rattle.mpd_outcomes.specs.declared.report.Goal.TheVariants as goal_is
 use Rattle.mpd_outcomes.specs.Goals.{meets, meets_any, ends_at}
@@ -22,20 +22,20 @@ pub row_meets : map {B = List Bool} (λ (g : Goal). map {B = Bool} (meets g) end
 row_meets = refl
 
 -- no leaf; one that is done; a deadlock after it; and one before it
-abbrev done : Leaf
+abbrev done : SearchLeaf
 done = record { choices = 0 ∷ []; ending = Ended outcome_is.Done }
 
-abbrev stuck : Leaf
+abbrev stuck : SearchLeaf
 stuck = record { choices = 1 ∷ []; ending = Ended (outcome_is.Deadlock []) }
 
-abbrev lists : List (List Leaf)
+abbrev lists : List (List SearchLeaf)
 lists = [] ∷ (done ∷ []) ∷ (done ∷ stuck ∷ []) ∷ (stuck ∷ done ∷ []) ∷ []
 
 -- whether the last one is a deadlock, and whether one before it is
 pub row_last : map {B = Bool} (ends_at (Some goal_is.Deadlock)) lists ≡ false ∷ false ∷ true ∷ false ∷ []
 row_last = refl
 
-pub row_before : map {B = Bool} (λ (ls : List Leaf). list_any (meets_any (Some goal_is.Deadlock)) (take (length ls - 1) ls)) lists ≡ false ∷ false ∷ false ∷ true ∷ []
+pub row_before : map {B = Bool} (λ (ls : List SearchLeaf). list_any (meets_any (Some goal_is.Deadlock)) (take (length ls - 1) ls)) lists ≡ false ∷ false ∷ false ∷ true ∷ []
 row_before = refl
 
 -- without a goal none meets it

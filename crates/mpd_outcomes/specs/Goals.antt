@@ -4,7 +4,7 @@ use Rattle.std.specs.List.{list_any}
 use Rattle.mpd_model.specs.declared.outcome.Outcome.TheVariants as outcome_is
 use Rattle.mpd_policy.specs.declared.ending.Ending.{Ending}
 use Rattle.mpd_policy.specs.declared.ending.Ending.TheVariants.{Ended}
-use Rattle.mpd_explore.specs.declared.report.Leaf.{Leaf}
+use Rattle.mpd_explore.specs.declared.report.SearchLeaf.{SearchLeaf}
 use Rattle.mpd_outcomes.specs.declared.report.Goal.{Goal}
 use Rattle.mpd_outcomes.specs.declared.report.Goal.TheVariants as goal_is
 use Rattle.mpd_outcomes.specs.declared.report.StateLimits.{StateLimits}
@@ -23,24 +23,24 @@ meets goal_is.Well (Ended (outcome_is.Leftovers calls)) = true
 meets g e = false
 
 -- the same of a goal that may be none: then no run meets it
-abbrev pub meets_any : Option Goal → Leaf → Bool
+abbrev pub meets_any : Option Goal → SearchLeaf → Bool
 meets_any None l = false
 meets_any (Some g) l = meets g l.ending
 
 -- the last of some leaves meets the goal
-abbrev pub ends_at : Option Goal → List Leaf → Bool
+abbrev pub ends_at : Option Goal → List SearchLeaf → Bool
 ends_at goal ls = list_any (meets_any goal) (drop (length ls - 1) ls)
 
 -- no leaf but the last one meets the goal
-abbrev pub StopsAt : Option Goal → List Leaf → Type 0
+abbrev pub StopsAt : Option Goal → List SearchLeaf → Type 0
 StopsAt goal ls = list_any (meets_any goal) (take (length ls - 1) ls) ≡ false
 
 -- There are runs that were not come to only where so many states were come to as may be, or where the goal is met.
-abbrev pub StopsFor : StateLimits → Bool → ℕ → List Leaf → Type 0
+abbrev pub StopsFor : StateLimits → Bool → ℕ → List SearchLeaf → Type 0
 StopsFor limits more visited ls = more ≡ true → (visited ≡ limits.visited) ⊎ (ends_at limits.until ls ≡ true)
 
 -- how many states stand along some runs: the choices of each, and its end
-abbrev pub states_along : List Leaf → ℕ
+abbrev pub states_along : List SearchLeaf → ℕ
 states_along [] = 0
 states_along (l ∷ ls) = suc (length l.choices) + states_along ls
 

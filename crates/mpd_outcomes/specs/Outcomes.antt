@@ -2,7 +2,7 @@
 use Rattle.std.specs.Prelude.{◌≡◌, ◌≤◌, ℕ, ◌^◌, ◌+◌, if◌then◌else◌, nat_lt, take, List, length, map}
 use Rattle.mpd_model.specs.steps.World.{World}
 use Rattle.mpd_policy.specs.Walk.{wide_walk}
-use Rattle.mpd_explore.specs.declared.report.Leaf.{Leaf}
+use Rattle.mpd_explore.specs.declared.report.SearchLeaf.{SearchLeaf}
 use Rattle.mpd_explore.specs.Report.{shown}
 use Rattle.mpd_explore.specs.Ends.{firsts, times}
 use Rattle.mpd_outcomes.specs.declared.report.Count.{Count}
@@ -22,7 +22,7 @@ plus c d = More
 -- ---- what is told of the leaves of runs
 
 -- the leaves of the wide walk from a state with so much fuel
-abbrev pub leaves_from : ℕ → World → List Leaf
+abbrev pub leaves_from : ℕ → World → List SearchLeaf
 leaves_from fuel w = map shown (wide_walk fuel w)
 
 -- Of the runs of the wide walk some were come to, the first ones. The first run of each way that these end is shown, and how many of them

@@ -4,7 +4,7 @@ ghost use Rattle.std.specs.Prelude.{◌≡◌, ◌+◌, ◌-◌, ◌≤◌, ◌<
 ghost use Rattle.std.specs.List.{AllByRecursion, list_any};
 ghost use Rattle.mpd_model.specs.runs.Trail.{done_steps};
 ghost use Rattle.mpd_model.specs.steps.World.{World};
-ghost use Rattle.mpd_core.specs.DebuggerViews.{AsFound, standing_of};
+ghost use Rattle.mpd_trail.specs.DebuggerViews.{AsFound, standing_of};
 ghost use Rattle.mpd_policy.specs.Wide.{wide_decision};
 ghost use Rattle.mpd_policy.specs.Walk.{run_by};
 ghost use Rattle.mpd_policy.specs.Walks.{Beyond};
@@ -23,10 +23,10 @@ use crate::report::{Outcomes, StateLimits};
 use crate::search::{Bounds, Front, Open, Reach, search};
 use crate::sums::{Sums, Tally, pad};
 use crate::table::Table;
-use mpd_core::Debugger;
-use mpd_explore::{Leaf, Report, witness_here};
+use mpd_explore::{SearchLeaf, SearchReport, Witnesses, witness_here};
 use mpd_model::STEPS_MAX;
 use mpd_policy::{Wide, follow, put_back, wide_decisions_can_be_followed};
+use mpd_trail::Debugger;
 use std::alloc::{AllocError, Global};
 use std::mem;
 
@@ -99,7 +99,7 @@ fn told_at(alloc: Global, front: &mut Front, reach: Reach) -> Result<Outcomes, A
     pad(&mut counts, front.ways.len())?;
     let leaves = mem::replace(&mut front.ways, Vec::new(alloc));
     Ok(Outcomes {
-        firsts: Report {
+        firsts: SearchReport {
             leaves,
             more: reach.more,
             witnesses: Vec::new(alloc),
@@ -182,50 +182,52 @@ fn find(
     told
 }
 
-/// The text of the witness of a run that its choices tell, if that is a deadlock or a trap. On
-/// return the debugger may be at any later state.
+/// The text of the witness of a run that its choices tell, if that is asked for. On return the
+/// debugger may be at any later state.
 fn text_there(
     alloc: Global,
     debugger: &mut Debugger<'_>,
+    asked: Witnesses,
     fuel: usize,
-    leaf: &Leaf,
+    leaf: &SearchLeaf,
 ) -> Result<String, AllocError>
     requires fits { debugger.old.trail.depth + fuel ≤ STEPS_MAX }
     requires some { IsSome (run_by wide_decision fuel leaf.now.choices debugger.old.world) }
-    ensures text { IfOk result (λ t. string_bytes t ≡ witness_text wide_decision (done_steps debugger.old.trail) fuel debugger.old.world leaf.now) }
+    ensures text { IfOk result (λ t. string_bytes t ≡ witness_text wide_decision asked (done_steps debugger.old.trail) fuel debugger.old.world leaf.now) }
     ensures beyond { Beyond (standing_of debugger.old) (standing_of debugger.new) }
 {
     follow(alloc, &Wide, debugger, fuel, &leaf.choices.items)?;
-    witness_here(alloc, debugger, &leaf.ending)
+    witness_here(alloc, debugger, asked, &leaf.ending)
 }
 
 /// The same, and the debugger is left as found.
 fn text_of(
     alloc: Global,
     debugger: &mut Debugger<'_>,
+    asked: Witnesses,
     fuel: usize,
-    leaf: &Leaf,
+    leaf: &SearchLeaf,
 ) -> Result<String, AllocError>
     requires clean { length debugger.old.trail.steps ≡ debugger.old.trail.depth }
     requires fits { debugger.old.trail.depth + fuel ≤ STEPS_MAX }
     requires some { IsSome (run_by wide_decision fuel leaf.now.choices debugger.old.world) }
-    ensures text { IfOk result (λ t. string_bytes t ≡ witness_text wide_decision (done_steps debugger.old.trail) fuel debugger.old.world leaf.now) }
+    ensures text { IfOk result (λ t. string_bytes t ≡ witness_text wide_decision asked (done_steps debugger.old.trail) fuel debugger.old.world leaf.now) }
     ensures as_found { AsFound (standing_of debugger.old) (standing_of debugger.new) }
 {
     debugger.state_is_reached();
     let base = debugger.depth();
-    let told = text_there(alloc, debugger, fuel, leaf);
+    let told = text_there(alloc, debugger, asked, fuel, leaf);
     put_back(debugger, base);
     told
 }
 
-/// The texts of the witnesses of runs, if they are asked for. The debugger is left as found. `Err`
+/// The texts of the witnesses of runs, if any are asked for. The debugger is left as found. `Err`
 /// means that memory was refused, which happens only if there is a leaf.
 fn texts_of(
     alloc: Global,
     debugger: &mut Debugger<'_>,
     limits: StateLimits,
-    leaves: &[Leaf],
+    leaves: &[SearchLeaf],
 ) -> Result<Vec<String>, AllocError>
     requires clean { length debugger.old.trail.steps ≡ debugger.old.trail.depth }
     requires fits { debugger.old.trail.depth + limits.fuel ≤ STEPS_MAX }
@@ -236,11 +238,12 @@ fn texts_of(
 {
     debugger.state_is_reached();
     let mut texts = Vec::new(alloc);
-    if !limits.witnesses {
+    let asked = limits.witnesses;
+    if !asked.are_asked() {
         return Ok(texts);
     }
     for leaf in leaves {
-        let text = text_of(alloc, debugger, limits.fuel, leaf)?;
+        let text = text_of(alloc, debugger, asked, limits.fuel, leaf)?;
         texts.push(text)?;
     }
     Ok(texts)

@@ -4,7 +4,7 @@ ghost use Rattle.std.specs.Prelude.{◌≡◌};
 ghost use Rattle.mpd_outcomes.specs.Outcomes.{plus};
 ghost use Rattle.mpd_outcomes.specs.Goals.{meets};
 
-use mpd_explore::{Ending, Report};
+use mpd_explore::{Ending, SearchReport, Witnesses};
 use mpd_model::Outcome;
 
 /// How many runs there are.
@@ -67,8 +67,8 @@ pub struct StateLimits {
     pub kept: usize,
     /// How many states are visited at most, kept or not.
     pub visited: usize,
-    /// Whether the witnesses of deadlocks and traps are wanted.
-    pub witnesses: bool,
+    /// Of which first runs the witnesses are wanted.
+    pub witnesses: Witnesses,
     /// The end for which the search stops, as soon as a run is found that ends so. Without one, all
     /// runs are visited.
     pub until: Option<Goal>,
@@ -78,7 +78,7 @@ pub struct StateLimits {
 #[derive(Drop)]
 pub struct Outcomes {
     /// The first run of each way, and whether there are runs that were not visited.
-    pub firsts: Report,
+    pub firsts: SearchReport,
     /// How many runs end so, for each of the first runs, in order.
     pub counts: Vec<Count>,
     /// How many runs there are in all.

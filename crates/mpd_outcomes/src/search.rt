@@ -5,7 +5,7 @@ ghost use Rattle.std.specs.Prelude.{◌≡◌, ◌+◌, ◌≤◌, ◌<◌, ℕ,
 ghost use Rattle.mpd_model.specs.runs.Trail.{done_steps, gone_back, IsReached};
 ghost use Rattle.mpd_model.specs.steps.World.{World};
 ghost use Rattle.mpd_model.specs.declared.decision.Decision.TheVariants as decision_is;
-ghost use Rattle.mpd_core.specs.DebuggerViews.{standing_of};
+ghost use Rattle.mpd_trail.specs.DebuggerViews.{standing_of};
 ghost use Rattle.mpd_outcomes.specs.declared.search.Arrived.TheVariants as arrived_is;
 ghost use Rattle.mpd_policy.specs.Wide.{wide_decision};
 ghost use Rattle.mpd_policy.specs.Walks.{Beyond};
@@ -21,10 +21,10 @@ use crate::report::StateLimits;
 use crate::sums::{Sums, Tally};
 use crate::table::{Found, Table};
 use crate::ways::{is_goal_met, way_of};
-use mpd_core::Debugger;
-use mpd_explore::{ChoiceList, Ending, Leaf};
+use mpd_explore::{ChoiceList, Ending, SearchLeaf};
 use mpd_model::{Decision, STEPS_MAX, Step, StepList};
 use mpd_policy::{wide_decide, wide_decisions_can_be_followed};
+use mpd_trail::Debugger;
 use std::alloc::{AllocError, Global};
 use std::mem;
 
@@ -54,7 +54,7 @@ pub(crate) struct Open {
 pub(crate) struct Front {
     pub(crate) stack: Vec<Open>,
     pub(crate) sums: Sums,
-    pub(crate) ways: Vec<Leaf>,
+    pub(crate) ways: Vec<SearchLeaf>,
     pub(crate) table: Table,
 }
 
@@ -129,7 +129,7 @@ fn number_here(alloc: Global, ending: Ending, front: &mut Front) -> Result<usize
         }
     };
     let number = front.ways.len();
-    front.ways.push(Leaf { choices, ending })?;
+    front.ways.push(SearchLeaf { choices, ending })?;
     Ok(number)
 }
 

@@ -6,10 +6,10 @@ ghost use Rattle.mpd_outcomes.specs.Sums.{IsWay};
 ghost use Rattle.mpd_outcomes.specs.Goals.{ends_at};
 
 use crate::report::Goal;
-use mpd_explore::{Ending, Leaf, same_ending};
+use mpd_explore::{Ending, SearchLeaf, same_ending};
 
 /// The number of the first leaf that ends so, if one does.
-pub(crate) fn way_of(leaves: &[Leaf], ending: &Ending) -> Option<usize>
+pub(crate) fn way_of(leaves: &[SearchLeaf], ending: &Ending) -> Option<usize>
     ensures found { IfSome result (λ number. IsWay leaves.now ending.now number) }
     ensures none { IfNone result (has_end leaves.now ending.now ≡ false) }
 {
@@ -22,7 +22,7 @@ pub(crate) fn way_of(leaves: &[Leaf], ending: &Ending) -> Option<usize>
 }
 
 /// Whether the last of some leaves ends as a search stops for.
-pub(crate) fn is_goal_met(until: Option<Goal>, leaves: &[Leaf]) -> bool
+pub(crate) fn is_goal_met(until: Option<Goal>, leaves: &[SearchLeaf]) -> bool
     ensures { result ≡ ends_at until leaves.now }
 {
     match (until, leaves.last()) {

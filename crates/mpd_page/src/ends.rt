@@ -11,13 +11,15 @@ ghost use Rattle.mpd_outcomes.specs.declared.report.Goal.TheVariants.{Bad};
 
 use crate::json::{add, add_text, push_lines, push_member, push_quoted};
 use mpd_blame::{Blame, blame_run, push_blame};
-use mpd_core::{Core, Debugger};
+use mpd_core::Core;
 use mpd_explain::{push_all_lost, push_told};
+use mpd_explore::Witnesses;
 use mpd_marks::push_marked;
 use mpd_model::{STEPS_MAX, print_outcome};
 use mpd_outcomes::{Goal, StateLimits};
 use mpd_policy::Ending;
 use mpd_runs::{FUEL, STATES_KEPT};
+use mpd_trail::Debugger;
 use std::alloc::{AllocError, Global};
 
 /// How a run ends that leads to a state.
@@ -186,7 +188,7 @@ fn decided(
         fuel: limit_of(whole.depth()),
         kept: STATES_KEPT,
         visited: most,
-        witnesses: false,
+        witnesses: Witnesses::OfNone,
         until: None,
     };
     let blame = blame_run(alloc, whole, limits)?;

@@ -10,8 +10,8 @@ use crate::json::add_text;
 use crate::node::{Way, push_node};
 use crate::tree::{Branch, PageFault, STATES_MAX, child, grow};
 use crate::walk::Walk;
-use mpd_core::Debugger;
 use mpd_model::Step;
+use mpd_trail::Debugger;
 use std::alloc::{AllocError, Global};
 
 /// What is made so far of a page's states.

@@ -20,8 +20,9 @@ use crate::nodes::{Drawn, follow};
 use crate::tree::{PageFault, STATES_MAX};
 use crate::walk::Walk;
 use mpd_code::Code;
-use mpd_core::{Core, Debugger};
+use mpd_core::Core;
 use mpd_model::{Mode, StepList};
+use mpd_trail::Debugger;
 use std::alloc::{AllocError, Global};
 
 /// How runs are drawn.

@@ -18,8 +18,9 @@ use crate::shapes::{places_of, shapes_of};
 use crate::style::{LARGE_STYLE, LEGEND, OPENED, STYLE};
 use crate::svg::push_shapes;
 use crate::told::push_list;
-use mpd_core::{Core, Debugger};
+use mpd_core::Core;
 use mpd_model::{Outcome, print_outcome};
+use mpd_trail::Debugger;
 use std::alloc::{AllocError, Global};
 
 /// How much of a run is drawn at most: this many calls that are issued, matches, releases, notes,

@@ -10,9 +10,10 @@ ghost use Rattle.mpd_picture.specs.declared.glyph.Deed.TheVariants as deed;
 ghost use Rattle.mpd_picture.specs.Glyphs as spec;
 
 use crate::glyph::{Deed, Event, Glyph, Note};
-use mpd_core::{Core, Debugger};
+use mpd_core::Core;
 use mpd_model::{Activity, CallId, Step};
 use mpd_names::rank_line;
+use mpd_trail::Debugger;
 use std::alloc::{AllocError, Global};
 
 /// Adds what is shown.

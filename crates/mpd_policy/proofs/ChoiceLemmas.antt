@@ -10,8 +10,8 @@ use Rattle.mpd_model.specs.declared.decision.Decision.TheVariants.{Forced, Choic
 use Rattle.mpd_model.specs.steps.World.{World}
 use Rattle.mpd_model.specs.steps.Next.{fold}
 use Rattle.mpd_model.specs.runs.Trail.{Standing, done_steps}
-use Rattle.mpd_policy.specs.declared.along.Stop.{Stop}
-use Rattle.mpd_policy.specs.declared.along.Stop.TheVariants.{Ended, Fuel, Untaken}
+use Rattle.mpd_policy.specs.declared.along.WalkEnd.{WalkEnd}
+use Rattle.mpd_policy.specs.declared.along.WalkEnd.TheVariants.{Ended, Fuel, Untaken}
 use Rattle.mpd_policy.specs.declared.choosers.ByChoices.{ByChoices}
 use Rattle.mpd_policy.specs.Walk.{Run, here as run_here, prefixed, ending_by, run_taken, run_followed, run_stopped, run_by, steps_by}
 use Rattle.mpd_policy.specs.Walked.{Walked}
@@ -75,29 +75,29 @@ module _ (decide : World → Decision) where
       ∙ run_along decide takes_listed stays c m d.trail.depth (limit - d.trail.depth) (limit - e.trail.depth) d.world e.world h.choices h.path m.left.now fuel h.walked
 
   -- the chooser in the end has what is left
-  pub left_last : (limit : ℕ) (d e : Standing) (c f : ByChoices) (s : Stop) → (h : Walks decide takes_listed leaves_listed stays limit d c s e f) → h.middle.left.now ≡ f.left.now
+  pub left_last : (limit : ℕ) (d e : Standing) (c f : ByChoices) (s : WalkEnd) → (h : Walks decide takes_listed leaves_listed stays limit d c s e f) → h.middle.left.now ≡ f.left.now
   left_last limit d e c f (Ended o) h = ap (λ (b : ByChoices). b.left.now) (sym h.stops.0)
   left_last limit d e c f Fuel h = ap (λ (b : ByChoices). b.left.now) (sym h.stops.0)
   left_last limit d e c f Untaken h = sym h.stops.0.left.1
 
-  pub fewer_left : (limit : ℕ) (d e : Standing) (c f : ByChoices) (s : Stop) → Walks decide takes_listed leaves_listed stays limit d c s e f → length f.left.now ≤ length c.left.now
+  pub fewer_left : (limit : ℕ) (d e : Standing) (c f : ByChoices) (s : WalkEnd) → Walks decide takes_listed leaves_listed stays limit d c s e f → length f.left.now ≤ length c.left.now
   fewer_left limit d e c f s h =
       omega (arith, ap length (left_along c h.middle d.trail.depth d.world e.world h.gone.choices h.gone.path h.gone.walked), length-append h.gone.choices h.middle.left.now, ap length (left_last limit d e c f s h))
 
-  over_last : (limit : ℕ) (d e : Standing) (c f : ByChoices) (s : Stop) → (h : Walks decide takes_listed leaves_listed stays limit d c s e f) → (s ≡ Untaken → ⊥) → run_by decide (limit - e.trail.depth) h.middle.left.now e.world ≡ run_stopped h.middle.left.now (decide e.world)
+  over_last : (limit : ℕ) (d e : Standing) (c f : ByChoices) (s : WalkEnd) → (h : Walks decide takes_listed leaves_listed stays limit d c s e f) → (s ≡ Untaken → ⊥) → run_by decide (limit - e.trail.depth) h.middle.left.now e.world ≡ run_stopped h.middle.left.now (decide e.world)
   over_last limit d e c f (Ended o) h never = at_leaf decide (limit - e.trail.depth) h.middle.left.now e.world o h.stops.1
   over_last limit d e c f Fuel h never =
       let spent : limit - e.trail.depth ≡ 0 = (let x = h.stops.1 in omega (arith, x)) in
       ap (λ n. run_by decide n h.middle.left.now e.world) spent ∙ no_fuel decide h.middle.left.now e.world
   over_last limit d e c f Untaken h never = absurd (never refl)
 
-  pub within_limit : {C : Type 0} (takes : C → ℕ → World → List Step → ℕ → C → Type 0) (leaves : C → ℕ → World → List Step → C → Type 0) (passes : C → ℕ → World → Step → C → Type 0) (limit : ℕ) (d e : Standing) (c f : C) (s : Stop) → Walks decide takes leaves passes limit d c s e f → e.trail.depth ≤ limit
+  pub within_limit : {C : Type 0} (takes : C → ℕ → World → List Step → ℕ → C → Type 0) (leaves : C → ℕ → World → List Step → C → Type 0) (passes : C → ℕ → World → Step → C → Type 0) (limit : ℕ) (d e : Standing) (c f : C) (s : WalkEnd) → Walks decide takes leaves passes limit d c s e f → e.trail.depth ≤ limit
   within_limit takes leaves passes limit d e c f (Ended o) h = let x = h.stops.2 in omega (arith, x)
   within_limit takes leaves passes limit d e c f Fuel h = let x = h.stops.1 in omega (arith, x)
   within_limit takes leaves passes limit d e c f Untaken h = let x = h.stops.1 in omega (arith, x)
 
   -- where it doesn't stop at a choice, they tell a run if none is left
-  pub run_ended : (limit : ℕ) (d e : Standing) (c f : ByChoices) (s : Stop) → (h : Walks decide takes_listed leaves_listed stays limit d c s e f) → (s ≡ Untaken → ⊥)
+  pub run_ended : (limit : ℕ) (d e : Standing) (c f : ByChoices) (s : WalkEnd) → (h : Walks decide takes_listed leaves_listed stays limit d c s e f) → (s ≡ Untaken → ⊥)
       → run_by decide (limit - d.trail.depth) c.left.now d.world ≡ option_map (prefixed h.gone.choices h.gone.path) (run_stopped f.left.now (decide e.world))
   run_ended limit d e c f s h never =
       run_gone limit d e c h.middle (within_limit takes_listed leaves_listed stays limit d e c f s h) h.gone
@@ -116,19 +116,19 @@ module _ (decide : World → Decision) where
   none_not None e h = let no : ⊥ = cc in no
   none_not (Some r) e h = let no : ⊥ = cc in no
 
-  pub not_untaken : (limit : ℕ) (d e : Standing) (c f : ByChoices) (s : Stop) → Walks decide takes_listed leaves_listed stays limit d c s e f → IsSome (run_by decide (limit - d.trail.depth) c.left.now d.world) → s ≡ Untaken → ⊥
+  pub not_untaken : (limit : ℕ) (d e : Standing) (c f : ByChoices) (s : WalkEnd) → Walks decide takes_listed leaves_listed stays limit d c s e f → IsSome (run_by decide (limit - d.trail.depth) c.left.now d.world) → s ≡ Untaken → ⊥
   not_untaken limit d e c f (Ended o) h some is = let no : ⊥ = cc in no
   not_untaken limit d e c f Fuel h some is = let no : ⊥ = cc in no
   not_untaken limit d e c f Untaken h some is = none_not _ (run_untaken limit d e c f h) some
 
   -- where there is a run by them, its steps are those of the way
-  pub steps_told : (limit : ℕ) (d e : Standing) (c f : ByChoices) (s : Stop) → (h : Walks decide takes_listed leaves_listed stays limit d c s e f) → IsSome (run_by decide (limit - d.trail.depth) c.left.now d.world)
+  pub steps_told : (limit : ℕ) (d e : Standing) (c f : ByChoices) (s : WalkEnd) → (h : Walks decide takes_listed leaves_listed stays limit d c s e f) → IsSome (run_by decide (limit - d.trail.depth) c.left.now d.world)
       → steps_by (run_by decide (limit - d.trail.depth) c.left.now d.world) ≡ h.gone.path
   steps_told limit d e c f s h some =
       let is = run_ended limit d e c f s h (not_untaken limit d e c f s h some) in
       ap steps_by is ∙ steps_prefixed h.gone.choices h.gone.path f.left.now (decide e.world) (rw is at some)
 
-  pub followed : (base fuel : ℕ) (d e : Standing) (c f : ByChoices) (s : Stop) → base ≡ d.trail.depth → Walks decide takes_listed leaves_listed stays (base + fuel) d c s e f → IsSome (run_by decide fuel c.left.now d.world)
+  pub followed : (base fuel : ℕ) (d e : Standing) (c f : ByChoices) (s : WalkEnd) → base ≡ d.trail.depth → Walks decide takes_listed leaves_listed stays (base + fuel) d c s e f → IsSome (run_by decide fuel c.left.now d.world)
       → (done_steps e.trail ≡ done_steps d.trail ++ steps_by (run_by decide fuel c.left.now d.world)) × (fold d.world (steps_by (run_by decide fuel c.left.now d.world)) ≡ Some e.world)
   followed base fuel d e c f s at h some =
       let left : (base + fuel) - d.trail.depth ≡ fuel = omega (arith, at) in

@@ -9,7 +9,7 @@ use Rattle.mpd_model.specs.steps.Next.{fold}
 use Rattle.mpd_model.specs.runs.Trail.{Trail, Standing, IsReached, gone_back, redone, forgotten}
 use Rattle.mpd_model.specs.runs.Breakpoints.{break_at}
 use Rattle.mpd_model.specs.runs.Running.{world_at, hit_of, hit_at, one_back, ran_back}
-use Rattle.mpd_core.specs.DebuggerViews.{AsFound}
+use Rattle.mpd_trail.specs.DebuggerViews.{AsFound}
 use Rattle.mpd_policy.specs.Last.{cause_number, hit_by, last_hit}
 use Rattle.mpd_policy.proofs.NumberLemmas.{no_hit_at}
 use Rattle.mpd_policy.proofs.RunLemmas.{take_less, back_world}

@@ -20,7 +20,7 @@ use Rattle.mpd_model.specs.runs.Trail.{Trail, Standing, IsReached, IsRun, applie
 use Rattle.mpd_model.specs.runs.Decisions.{forced_step, choices, chosen_from, CanFollow}
 use Rattle.mpd_model.specs.runs.Breakpoints.{lowest_hit}
 use Rattle.mpd_model.specs.runs.Running.{Ran, ran_along, ran_by, ran_taking, at_most, stopped, behind, stop_of, all_applied}
-use Rattle.mpd_core.proofs.KeptLemmas.{fold-append}
+use Rattle.mpd_trail.proofs.KeptLemmas.{fold-append}
 use Rattle.mpd_policy.specs.declared.runs.Ahead.{Ahead}
 use Rattle.mpd_policy.specs.declared.runs.Ahead.TheVariants.{Take, Halt}
 use Rattle.mpd_policy.specs.declared.runs.Taking.{Taking}

@@ -7,9 +7,9 @@ use Rattle.mpd_model.specs.declared.decision.Decision.TheVariants.{Forced, Choic
 use Rattle.mpd_model.specs.steps.World.{World}
 use Rattle.mpd_model.specs.steps.Next.{next}
 use Rattle.mpd_model.specs.runs.Trail.{Trail, Standing, IsReached, done_steps, world_of, gone_back, forgotten}
-use Rattle.mpd_core.specs.DebuggerViews.{AsFound}
-use Rattle.mpd_policy.specs.declared.along.Stop.{Stop}
-use Rattle.mpd_policy.specs.declared.along.Stop.TheVariants.{Ended, Fuel, Untaken}
+use Rattle.mpd_trail.specs.DebuggerViews.{AsFound}
+use Rattle.mpd_policy.specs.declared.along.WalkEnd.{WalkEnd}
+use Rattle.mpd_policy.specs.declared.along.WalkEnd.TheVariants.{Ended, Fuel, Untaken}
 use Rattle.mpd_policy.specs.Walked.{Walked, Chose}
 use Rattle.mpd_policy.specs.Walked.Walked.{here, forced, chosen}
 use Rattle.mpd_policy.specs.Walks.{Beyond, Gone, StopsBy, Goes, Walks}
@@ -97,19 +97,19 @@ module _ {C : Type 0} (decide : World → Decision) (takes : C → ℕ → World
       let h : Chose takes leaves c d.trail.depth d.world candidates (Some a) f = rw some at chose in
       (deeper, gone_chosen d e c f a candidates h.0 is h.1 h.2 step same deeper)
 
-  pub goes_on : (leaves : C → ℕ → World → List Step → C → Type 0) (o : Option Stop) (d e : Standing) (c f : C) → ((s : Stop) → o ≡ Some s → ⊥) → Goes decide takes leaves passes d c o e f → (e.trail.depth ≡ d.trail.depth + 1) × Gone decide takes passes d c e f
+  pub goes_on : (leaves : C → ℕ → World → List Step → C → Type 0) (o : Option WalkEnd) (d e : Standing) (c f : C) → ((s : WalkEnd) → o ≡ Some s → ⊥) → Goes decide takes leaves passes d c o e f → (e.trail.depth ≡ d.trail.depth + 1) × Gone decide takes passes d c e f
   goes_on leaves None d e c f never h = h
   goes_on leaves (Some s) d e c f never h = absurd (never s refl)
 
-  stops_any : (leaves : C → ℕ → World → List Step → C → Type 0) (limit : ℕ) (e : Standing) (c f : C) (s : Stop) → e.trail.depth < limit → StopsBy decide leaves (λ n. ⊥) (λ n. Unit {0}) e c s f → StopsBy decide leaves (λ n. n ≡ limit) (λ n. n < limit) e c s f
+  stops_any : (leaves : C → ℕ → World → List Step → C → Type 0) (limit : ℕ) (e : Standing) (c f : C) (s : WalkEnd) → e.trail.depth < limit → StopsBy decide leaves (λ n. ⊥) (λ n. Unit {0}) e c s f → StopsBy decide leaves (λ n. n ≡ limit) (λ n. n < limit) e c s f
   stops_any leaves limit e c f (Ended o) room h = (h.0, h.1, room)
   stops_any leaves limit e c f Fuel room h = absurd h.1
   stops_any leaves limit e c f Untaken room h = (h.0, room)
 
-  stops_now : (leaves : C → ℕ → World → List Step → C → Type 0) (limit : ℕ) (s : Stop) (a d e : Standing) (c m f : C) → d.trail.depth < limit → Gone decide takes passes a c d m → e ≡ d → StopsBy decide leaves (λ n. ⊥) (λ n. Unit {0}) d m s f → Walks decide takes leaves passes limit a c s e f
+  stops_now : (leaves : C → ℕ → World → List Step → C → Type 0) (limit : ℕ) (s : WalkEnd) (a d e : Standing) (c m f : C) → d.trail.depth < limit → Gone decide takes passes a c d m → e ≡ d → StopsBy decide leaves (λ n. ⊥) (λ n. Unit {0}) d m s f → Walks decide takes leaves passes limit a c s e f
   stops_now leaves limit s a d e c m f room gone same h = rw same (record { middle = m; gone = gone; stops = stops_any leaves limit d m f s room h })
 
-  pub goes_stop : (leaves : C → ℕ → World → List Step → C → Type 0) (limit : ℕ) (o : Option Stop) (s : Stop) (a d e : Standing) (c m f : C) → d.trail.depth < limit → o ≡ Some s → Gone decide takes passes a c d m → Goes decide takes leaves passes d m o e f → Walks decide takes leaves passes limit a c s e f
+  pub goes_stop : (leaves : C → ℕ → World → List Step → C → Type 0) (limit : ℕ) (o : Option WalkEnd) (s : WalkEnd) (a d e : Standing) (c m f : C) → d.trail.depth < limit → o ≡ Some s → Gone decide takes passes a c d m → Goes decide takes leaves passes d m o e f → Walks decide takes leaves passes limit a c s e f
   goes_stop leaves limit o s a d e c m f room is gone h =
       let k : Goes decide takes leaves passes d m (Some s) e f = rw is at h in
       stops_now leaves limit s a d e c m f room gone k.0 k.1

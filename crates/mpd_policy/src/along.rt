@@ -1,10 +1,10 @@
 //! A walk along decisions.
 
 ghost use Rattle.std.specs.Prelude.{◌≡◌, ◌<◌, ◌≤◌, ◌+◌, ◌++◌, IfOk, OnOk, OnErr, IsSome, Some, length, Decides};
-ghost use Rattle.mpd_policy.specs.declared.along.Stop.TheVariants as stop_is;
+ghost use Rattle.mpd_policy.specs.declared.along.WalkEnd.TheVariants as stop_is;
 ghost use Rattle.mpd_model.specs.steps.Next.{fold};
 ghost use Rattle.mpd_model.specs.runs.Trail.{Standing, done_steps, gone_back, forgotten, IsReached};
-ghost use Rattle.mpd_core.specs.DebuggerViews.{AsFound, standing_of};
+ghost use Rattle.mpd_trail.specs.DebuggerViews.{AsFound, standing_of};
 ghost use Rattle.mpd_policy.specs.Walk.{ending_by, run_by, steps_by};
 ghost use Rattle.mpd_policy.specs.Walks.{Beyond, Goes, Walks, ending_after};
 
@@ -12,13 +12,13 @@ use crate::chooser::Chooser;
 use crate::choosers::ByChoices;
 use crate::ending::Ending;
 use crate::schedule::Schedule;
-use mpd_core::Debugger;
 use mpd_model::{Decision, Outcome, STEPS_MAX};
+use mpd_trail::Debugger;
 use std::alloc::{AllocError, Global};
 
 /// Why a walk stops.
 #[derive(Drop)]
-pub enum Stop {
+pub enum WalkEnd {
     /// The run has ended.
     Ended(Outcome),
     /// The limit is reached.
@@ -27,12 +27,12 @@ pub enum Stop {
     Untaken,
 }
 
-impl Stop {
+impl WalkEnd {
     /// Whether none of the candidates of a choice is taken.
     pub fn is_untaken(&self) -> bool
         ensures { Decides result (self.now ≡ stop_is.Untaken) }
     {
-        matches!(self, Stop::Untaken)
+        matches!(self, WalkEnd::Untaken)
     }
 }
 
@@ -42,7 +42,7 @@ fn go_on<S: Schedule, C: Chooser>(
     schedule: &S,
     debugger: &mut Debugger<'_>,
     chooser: &mut C,
-) -> Result<Option<Stop>, AllocError>
+) -> Result<Option<WalkEnd>, AllocError>
     requires few { debugger.old.trail.depth < STEPS_MAX }
     ensures goes { IfOk result (λ o. Goes S.decides C.takes C.leaves C.passes (standing_of debugger.old) chooser.old o (standing_of debugger.new) chooser.new) }
     ensures beyond { Beyond (standing_of debugger.old) (standing_of debugger.new) }
@@ -50,7 +50,7 @@ fn go_on<S: Schedule, C: Chooser>(
     debugger.state_is_reached();
     schedule.can_be_followed();
     match schedule.decide(alloc, debugger.core())? {
-        Decision::Leaf(outcome) => Ok(Some(Stop::Ended(outcome))),
+        Decision::Leaf(outcome) => Ok(Some(WalkEnd::Ended(outcome))),
         Decision::Forced(step) => {
             chooser.pass(debugger, step)?;
             debugger.forward(step)?;
@@ -58,7 +58,7 @@ fn go_on<S: Schedule, C: Chooser>(
         }
         Decision::Choice(candidates) => {
             let Some(step) = chooser.choose(debugger, candidates)? else {
-                return Ok(Some(Stop::Untaken));
+                return Ok(Some(WalkEnd::Untaken));
             };
             debugger.forward(step)?;
             Ok(None)
@@ -75,7 +75,7 @@ pub fn walk<S: Schedule, C: Chooser>(
     debugger: &mut Debugger<'_>,
     limit: usize,
     chooser: &mut C,
-) -> Result<Stop, AllocError>
+) -> Result<WalkEnd, AllocError>
     requires within { debugger.old.trail.depth ≤ limit }
     requires few { limit ≤ STEPS_MAX }
     ensures walks { IfOk result (λ s. Walks S.decides C.takes C.leaves C.passes limit (standing_of debugger.old) chooser.old s (standing_of debugger.new) chooser.new) }
@@ -88,7 +88,7 @@ pub fn walk<S: Schedule, C: Chooser>(
             return Ok(stop);
         }
     }
-    Ok(Stop::Fuel)
+    Ok(WalkEnd::Fuel)
 }
 
 /// Leads a debugger along the run that some choices describe from its state, to the end of the run
@@ -137,18 +137,18 @@ pub fn ending_of<S: Schedule>(
     alloc: Global,
     schedule: &S,
     debugger: &Debugger<'_>,
-    stop: Stop,
+    stop: WalkEnd,
 ) -> Result<Option<Ending>, AllocError>
     ensures ending { IfOk result (λ o. o ≡ ending_after S.decides stop debugger.now.world) }
     ensures memory { OnErr result (stop ≡ stop_is.Fuel) }
 {
     match stop {
-        Stop::Ended(outcome) => Ok(Some(Ending::Ended(outcome))),
-        Stop::Fuel => {
+        WalkEnd::Ended(outcome) => Ok(Some(Ending::Ended(outcome))),
+        WalkEnd::Fuel => {
             let ending = ending_here(alloc, schedule, debugger)?;
             Ok(Some(ending))
         }
-        Stop::Untaken => Ok(None),
+        WalkEnd::Untaken => Ok(None),
     }
 }
 

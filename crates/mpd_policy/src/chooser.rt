@@ -3,8 +3,8 @@
 ghost use Rattle.std.specs.Prelude.{◌<◌, length, IfOk, OnOk};
 ghost use Rattle.mpd_policy.specs.Walked.{Chose};
 
-use mpd_core::Debugger;
 use mpd_model::{Step, StepList};
+use mpd_trail::Debugger;
 use std::alloc::AllocError;
 
 /// What chooses one of the candidates of a choice, or none of them.

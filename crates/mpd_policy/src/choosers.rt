@@ -4,8 +4,8 @@ ghost use Rattle.std.specs.Prelude.{◌<◌, length, IfOk, OnOk};
 ghost use Rattle.mpd_policy.specs.Choosers.{takes_listed, leaves_listed, takes_first, never_leaves, stays};
 
 use crate::chooser::Chooser;
-use mpd_core::Debugger;
 use mpd_model::{Step, StepList};
+use mpd_trail::Debugger;
 use std::alloc::AllocError;
 
 /// Takes the candidates that some choices name, in order. `left` are those that are still to be made.

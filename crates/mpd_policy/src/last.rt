@@ -3,12 +3,12 @@
 ghost use Rattle.std.specs.Prelude.{◌≡◌, ◌<◌, ◌≤◌, ◌-◌, IfOk, OnErr, length};
 ghost use Rattle.mpd_model.specs.runs.Trail.{IsReached, redone};
 ghost use Rattle.mpd_model.specs.runs.Running.{hit_at};
-ghost use Rattle.mpd_core.specs.DebuggerViews.{AsFound, standing_of};
+ghost use Rattle.mpd_trail.specs.DebuggerViews.{AsFound, standing_of};
 ghost use Rattle.mpd_policy.specs.Last as spec;
 
 use crate::breaks::Breaks;
 use crate::runs::take_back_watched;
-use mpd_core::{Debugger, RedoFault};
+use mpd_trail::{Debugger, RedoFault};
 use std::alloc::AllocError;
 
 /// Takes the step again that was undone last, in the room that is kept for it.

@@ -6,15 +6,16 @@ ghost use Rattle.mpd_model.specs.runs.Trail.{IsReached, IsRun, applied, done_ste
 ghost use Rattle.mpd_model.specs.runs.Decisions as decisions;
 ghost use Rattle.mpd_model.specs.runs.Breakpoints.{lowest_hit};
 ghost use Rattle.mpd_model.specs.runs.Running.{ran, ran_along, stop_of, all_applied, hit_at, ran_back};
-ghost use Rattle.mpd_core.specs.DebuggerViews.{standing_of};
+ghost use Rattle.mpd_trail.specs.DebuggerViews.{standing_of};
 ghost use Rattle.mpd_policy.specs.Ahead.{comes, forced_in, ahead_of, Lists, Wants, Went};
 ghost use Rattle.mpd_policy.specs.Single.{ran_on};
 
 use crate::breaks::Breaks;
 use crate::decisions::{forced_step, only_step};
 use crate::hits::lower;
-use mpd_core::{Core, Debugger};
+use mpd_core::Core;
 use mpd_model::{Cause, STEPS_MAX, Step, Stop};
+use mpd_trail::Debugger;
 use std::alloc::{AllocError, Global};
 
 /// What a run does next: a step, or it stops.

@@ -5,8 +5,9 @@ ghost use Rattle.mpd_model.specs.runs.Decisions.{CanFollow};
 
 use crate::decisions::{decide, decisions_can_be_followed};
 use crate::wide::{wake, wide_decide, wide_decisions_can_be_followed};
-use mpd_core::{Core, Debugger};
+use mpd_core::Core;
 use mpd_model::{Decision, Step, StepList};
+use mpd_trail::Debugger;
 use std::alloc::{AllocError, Global};
 
 /// A schedule says what comes next in a state: a forced step, or the candidates of a choice, or how

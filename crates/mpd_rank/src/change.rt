@@ -367,6 +367,14 @@ pub struct WakeRecord {
 
 const _: () = prove!(size_of::<WakeRecord>() == 48);
 
+/// What takes back what a rank did: a local step, a wake, or that a release let it go on.
+#[derive(Clone, Copy)]
+pub enum RankRecord {
+    Local(LocalRecord),
+    Woke(WakeRecord),
+    Released,
+}
+
 /// What a local step did beside moving its rank.
 #[derive(Clone, Copy)]
 pub enum LocalChange {

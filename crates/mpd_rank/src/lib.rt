@@ -7,7 +7,8 @@ pub mod plan;
 pub mod rank;
 
 pub use change::{
-    Cells, LocalChange, LocalKind, LocalRecord, OldCell, OldCells, OldHandle, WakeRecord,
+    Cells, LocalChange, LocalKind, LocalRecord, OldCell, OldCells, OldHandle, RankRecord,
+    WakeRecord,
 };
 pub use control::Control;
 pub use plan::{Alone, LocalPlan};

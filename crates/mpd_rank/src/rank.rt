@@ -7,7 +7,9 @@ ghost use Rattle.mpd_rank.specs.Entries.{IsSmall};
 ghost use Rattle.mpd_code.specs.Left.{left_at};
 ghost use Rattle.mpd_code.specs.Stands.{Stands};
 
-use crate::change::{Cells, LocalKind, LocalRecord, OldCell, OldCells, OldHandle, WakeRecord};
+use crate::change::{
+    Cells, LocalKind, LocalRecord, OldCell, OldCells, OldHandle, RankRecord, WakeRecord,
+};
 use crate::control::Control;
 use crate::plan::{Alone, LocalPlan, plan_alone, plan_node};
 use mpd_code::{Code, Env, Node};
@@ -58,7 +60,7 @@ impl RankState {
     ghost use Rattle.mpd_model.specs.steps.Next.{env_of, local, woken_rank, going_on, write_cells, requested, activity_after};
     ghost use Rattle.mpd_rank.specs.Views.{rank_of, listed};
     ghost use Rattle.mpd_rank.specs.Plans.{planned, planned_alone, plan_ran, HasPlannedReceiver};
-    ghost use Rattle.mpd_rank.specs.Undone.{IsOwn, undone_rank, unwoken, blocked_again, entry_at, entries_before, handle_entry, put_entry};
+    ghost use Rattle.mpd_rank.specs.Undone.{IsOwn, undone_rank, unwoken, blocked_again, restored, entry_at, entries_before, handle_entry, put_entry};
     ghost use Rattle.mpd_rank.specs.Records.{local_record, plan_record, alone_record, wake_record, IsPlanned};
 
     /// A rank before its first step, with the whole body to run. `Err` means that memory was
@@ -438,6 +440,22 @@ impl RankState {
         ensures world { (p : Program) → rank_of p self.new ≡ blocked_again (rank_of p self.old) }
     {
         self.act(Activity::Blocked);
+    }
+
+    /// Takes back what the rank did last, by its record: a local step, a wake, or that a release let
+    /// it go on. Memory can't be refused. One to six writes.
+    pub fn restore(&mut self, done: RankRecord)
+        ensures after { (p : Program) → rank_of p self.new ≡ restored p (rank_of p self.old) done }
+        ensures rank { self.new.rank ≡ self.old.rank }
+        ensures room_left { self.old.room ≤ self.new.room }
+        ensures rises { self.old.writes + 1 ≤ self.new.writes }
+        ensures few { self.new.writes ≤ self.old.writes + 6 }
+    {
+        match done {
+            RankRecord::Local(done) => self.restore_local(&done),
+            RankRecord::Woke(done) => self.unwake(&done),
+            RankRecord::Released => self.block_again(),
+        }
     }
 
     /// Whether the rank is running and has a statement left, so that it has a local step.

@@ -16,8 +16,8 @@ use Rattle.mpd_runs.specs.declared.fault.WordsFault.TheVariants.{BadChoices, Mem
 use Rattle.mpd_runs.specs.Place.{left_over, bad_behind, bad_taken, bad_by, bad_place}
 use Rattle.mpd_runs.specs.Led.{Led, RunsOrIsBad}
 use Rattle.mpd_runs.specs.Along.{steps_at, behind, no_steps, IsOver, IsBad, Ends, GoesOn}
-use Rattle.mpd_policy.specs.declared.along.Stop.{Stop}
-use Rattle.mpd_policy.specs.declared.along.Stop.TheVariants.{Ended, Fuel, Untaken}
+use Rattle.mpd_policy.specs.declared.along.WalkEnd.{WalkEnd}
+use Rattle.mpd_policy.specs.declared.along.WalkEnd.TheVariants.{Ended, Fuel, Untaken}
 use Rattle.mpd_policy.specs.declared.choosers.ByChoices.{ByChoices}
 use Rattle.mpd_policy.specs.Walked.{Walked}
 use Rattle.mpd_policy.specs.Walked.Walked.{here as way_here, forced as way_forced, chosen as way_chosen}
@@ -168,7 +168,7 @@ module _ (decide : World → Decision) where
   over_on m k cs left limit d e path (Err Memory) same g over h = absurd h
 
   -- the way ends where the run does
-  pub ended_on : (limit place : ℕ) (cs : List ℕ) (d e : Standing) (c f : ByChoices) (s : Stop) (r : Result (Unit {0}) WordsFault) → c.left.now ≡ cs → place ≡ length cs - length f.left.now → Walks decide takes_listed leaves_listed stays limit d c s e f → (s ≡ Untaken → ⊥) → Ends place f.left.now r → GoesOn decide limit cs d r e
+  pub ended_on : (limit place : ℕ) (cs : List ℕ) (d e : Standing) (c f : ByChoices) (s : WalkEnd) (r : Result (Unit {0}) WordsFault) → c.left.now ≡ cs → place ≡ length cs - length f.left.now → Walks decide takes_listed leaves_listed stays limit d c s e f → (s ≡ Untaken → ⊥) → Ends place f.left.now r → GoesOn decide limit cs d r e
   ended_on limit place cs d e c f (Ended o) r first at h never ends =
       let x = h.stops in
       over_on (limit - e.trail.depth) place cs f.left.now limit d e h.gone.path r h.gone.done_steps_are (went limit place cs f.left.now d e c h.middle first (left_last decide limit d e c f (Ended o) h) at (let room = x.2 in omega (arith, room)) h.gone) (over_leaf (limit - e.trail.depth) place f.left.now e.world o x.1) ends
@@ -190,7 +190,7 @@ module _ (decide : World → Decision) where
   bad_on : (n m k : ℕ) (cs left : List ℕ) (w v : World) (path : List Step) → Went n k cs w path m left v → IsBad decide m k left v k → IsBad decide n 0 cs w k
   bad_on n m k cs left w v path g h = (g.steps ∙ ap (behind path) h.0, g.bad ∙ h.1)
 
-  pub untaken_on : (limit place : ℕ) (cs : List ℕ) (d e : Standing) (c f : ByChoices) (s : Stop) → c.left.now ≡ cs → place ≡ length cs - length f.left.now → Walks decide takes_listed leaves_listed stays limit d c s e f → s ≡ Untaken → GoesOn decide limit cs d (Err (BadChoices place)) e
+  pub untaken_on : (limit place : ℕ) (cs : List ℕ) (d e : Standing) (c f : ByChoices) (s : WalkEnd) → c.left.now ≡ cs → place ≡ length cs - length f.left.now → Walks decide takes_listed leaves_listed stays limit d c s e f → s ≡ Untaken → GoesOn decide limit cs d (Err (BadChoices place)) e
   untaken_on limit place cs d e c f s first at h is =
       let x : StopsBy decide leaves_listed (λ n. n ≡ limit) (λ n. n < limit) e h.middle Untaken f = rw is at h.stops in
       let same : h.middle.left.now ≡ f.left.now = sym x.0.left.1 in

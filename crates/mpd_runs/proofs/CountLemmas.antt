@@ -7,7 +7,7 @@ use Rattle.std.proofs.lemmas.List.Sums.{sum_by-cons}
 use Rattle.mpd_model.specs.steps.World.{World}
 use Rattle.mpd_policy.specs.declared.ending.Ending.{Ending}
 use Rattle.mpd_policy.specs.Walk.{wide_walk}
-use Rattle.mpd_explore.specs.declared.report.Leaf.{Leaf}
+use Rattle.mpd_explore.specs.declared.report.SearchLeaf.{SearchLeaf}
 use Rattle.mpd_explore.specs.Report.{shown}
 use Rattle.mpd_outcomes.specs.declared.report.Count.{Count}
 use Rattle.mpd_outcomes.specs.declared.report.Count.TheVariants.{Exactly}
@@ -24,23 +24,23 @@ use Rattle.mpd_runs.specs.Counts.{counts_of, with_told}
 
 -- ---- the loop
 
-nothing_more : (x : Way) (sum : Count) (ls : List Leaf) (cs : List Count) → (ls ≡ []) ⊎ (cs ≡ []) → with_told x sum ls cs ≡ sum
-nothing_more x sum ls cs (inl e) = ap (λ (z : List Leaf). with_told x sum z cs) e
+nothing_more : (x : Way) (sum : Count) (ls : List SearchLeaf) (cs : List Count) → (ls ≡ []) ⊎ (cs ≡ []) → with_told x sum ls cs ≡ sum
+nothing_more x sum ls cs (inl e) = ap (λ (z : List SearchLeaf). with_told x sum z cs) e
 nothing_more x sum [] cs (inr e) = refl
 nothing_more x sum (l ∷ ls) cs (inr e) = ap (with_told x sum (l ∷ ls)) e
 
 -- where either list has come to its end, all are added
-pub all_added : (x : Way) (sum all : Count) (ls : List Leaf) (cs : List Count) → (ls ≡ []) ⊎ (cs ≡ []) → with_told x sum ls cs ≡ all → sum ≡ all
+pub all_added : (x : Way) (sum all : Count) (ls : List SearchLeaf) (cs : List Count) → (ls ≡ []) ⊎ (cs ≡ []) → with_told x sum ls cs ≡ all → sum ≡ all
 all_added x sum all ls cs none told = sym (nothing_more x sum ls cs none) ∙ told
 
 -- ---- sums over leaves
 
 -- what those that end in a way weigh
-abbrev weight : Way → (Leaf → ℕ) → List Leaf → ℕ
+abbrev weight : Way → (SearchLeaf → ℕ) → List SearchLeaf → ℕ
 weight x g [] = 0
 weight x g (l ∷ ls) = cond (ends_in x l) (g l) 0 + weight x g ls
 
-told_weight : (x : Way) (a : ℕ) (g : Leaf → ℕ) (ls : List Leaf) → with_told x (counted a) ls (map (λ l. counted (g l)) ls) ≡ counted (a + weight x g ls)
+told_weight : (x : Way) (a : ℕ) (g : SearchLeaf → ℕ) (ls : List SearchLeaf) → with_told x (counted a) ls (map (λ l. counted (g l)) ls) ≡ counted (a + weight x g ls)
 told_weight x a g [] = ap counted (omega arith)
 told_weight x a g (l ∷ ls) =
     ap (λ (s : Count). with_told x s ls (map (λ m. counted (g m)) ls)) (step (ends_in x l))
@@ -51,7 +51,7 @@ told_weight x a g (l ∷ ls) =
     step true = plus_counted a (g l)
     step false = ap counted (omega arith)
 
-weight_split : (x : Way) (g : Leaf → ℕ) (p : Leaf → Bool) (ls : List Leaf) → weight x g ls ≡ weight x g (filter p ls) + weight x g (filter (λ m. not (p m)) ls)
+weight_split : (x : Way) (g : SearchLeaf → ℕ) (p : SearchLeaf → Bool) (ls : List SearchLeaf) → weight x g ls ≡ weight x g (filter p ls) + weight x g (filter (λ m. not (p m)) ls)
 weight_split x g p [] = refl
 weight_split x g p (l ∷ ls) = one (p l) (weight_split x g p ls)
   where
@@ -60,7 +60,7 @@ weight_split x g p (l ∷ ls) = one (p l) (weight_split x g p ls)
     one true e = omega (arith, e)
     one false e = omega (arith, e)
 
-same_weight : (x : Way) (g h : Leaf → ℕ) (p : Leaf → Bool) (ls : List Leaf) → ((m : Leaf) → p m ≡ true → g m ≡ h m) → weight x g (filter p ls) ≡ weight x h (filter p ls)
+same_weight : (x : Way) (g h : SearchLeaf → ℕ) (p : SearchLeaf → Bool) (ls : List SearchLeaf) → ((m : SearchLeaf) → p m ≡ true → g m ≡ h m) → weight x g (filter p ls) ≡ weight x h (filter p ls)
 same_weight x g h p [] same = refl
 same_weight x g h p (l ∷ ls) same = one (p l) refl (same_weight x g h p ls same)
   where
@@ -68,7 +68,7 @@ same_weight x g h p (l ∷ ls) same = one (p l) refl (same_weight x g h p ls sam
     one true is e = λ i. cond (ends_in x l) (same l is i) 0 + e i
     one false is e = e
 
-none_of_both : (p q : Leaf → Bool) (ls : List Leaf) → ((m : Leaf) → p m ≡ true → q m ≡ false) → filter p (filter q ls) ≡ []
+none_of_both : (p q : SearchLeaf → Bool) (ls : List SearchLeaf) → ((m : SearchLeaf) → p m ≡ true → q m ≡ false) → filter p (filter q ls) ≡ []
 none_of_both p q [] apart = refl
 none_of_both p q (l ∷ ls) apart = one (q l) refl (p l) refl (none_of_both p q ls apart)
   where
@@ -77,28 +77,28 @@ none_of_both p q (l ∷ ls) apart = one (q l) refl (p l) refl (none_of_both p q 
     one true at false is e = ap (λ (b : Bool). cond b (l ∷ filter p (filter q ls)) (filter p (filter q ls))) is ∙ e
     one false at c is e = e
 
-kept_by_both : (p q : Leaf → Bool) (ls : List Leaf) → ((m : Leaf) → p m ≡ true → q m ≡ true) → filter p (filter q ls) ≡ filter p ls
+kept_by_both : (p q : SearchLeaf → Bool) (ls : List SearchLeaf) → ((m : SearchLeaf) → p m ≡ true → q m ≡ true) → filter p (filter q ls) ≡ filter p ls
 kept_by_both p q [] within = refl
 kept_by_both p q (l ∷ ls) within = one (q l) refl (p l) refl (kept_by_both p q ls within)
   where
     one : (b : Bool) → q l ≡ b → (c : Bool) → p l ≡ c → filter p (filter q ls) ≡ filter p ls → filter p (cond b (l ∷ filter q ls) (filter q ls)) ≡ filter p (l ∷ ls)
-    one true at c is e = ap (λ (zs : List Leaf). cond (p l) (l ∷ zs) zs) e
+    one true at c is e = ap (λ (zs : List SearchLeaf). cond (p l) (l ∷ zs) zs) e
     one false at true is e = absurd (let f : true ≡ false = sym (within l is) ∙ at in cc)
     one false at false is e = e ∙ sym (ap (λ (b : Bool). cond b (l ∷ filter p ls) (filter p ls)) is)
 
 -- ---- ends
 
-same_back : (l m : Leaf) → same_end l m ≡ true → same_end m l ≡ true
+same_back : (l m : SearchLeaf) → same_end l m ≡ true → same_end m l ≡ true
 same_back l m h = ap (λ (z : Ending). ending_eq z l.ending) (sym (ending_same l.ending m.ending h)) ∙ ending_each l.ending
 
 -- what ends as another leaf does tells the same of a third
-same_as : (l m k : Leaf) → same_end l m ≡ true → same_end m k ≡ same_end l k
+same_as : (l m k : SearchLeaf) → same_end l m ≡ true → same_end m k ≡ same_end l k
 same_as l m k h = ap (λ (z : Ending). ending_eq z k.ending) (sym (ending_same l.ending m.ending h))
 
-pub same_ways : (x : Way) (l m : Leaf) → same_end l m ≡ true → ends_in x m ≡ ends_in x l
+pub same_ways : (x : Way) (l m : SearchLeaf) → same_end l m ≡ true → ends_in x m ≡ ends_in x l
 same_ways x l m h = ap (λ (z : Ending). same_way x (way_of z)) (sym (ending_same l.ending m.ending h))
 
-turned : (l m : Leaf) (b : Bool) → same_end l m ≡ b → same_end m l ≡ b
+turned : (l m : SearchLeaf) (b : Bool) → same_end l m ≡ b → same_end m l ≡ b
 turned l m true e = same_back l m e
 turned l m false e = by (same_end m l) refl
   where
@@ -116,21 +116,21 @@ un_false false e = absurd cc
 
 -- ---- how many end as the first does
 
-times_more : (k : Leaf) (ks : List Leaf) (m : Leaf) → times (k ∷ ks) m ≡ cond (same_end m k) 1 0 + times ks m
+times_more : (k : SearchLeaf) (ks : List SearchLeaf) (m : SearchLeaf) → times (k ∷ ks) m ≡ cond (same_end m k) 1 0 + times ks m
 times_more k ks m = one (same_end m k)
   where
     one : (b : Bool) → length (cond b (k ∷ filter (same_end m) ks) (filter (same_end m) ks)) ≡ cond b 1 0 + length (filter (same_end m) ks)
     one true = omega arith
     one false = omega arith
 
-times_apart : (k : Leaf) (ks : List Leaf) (m : Leaf) → same_end m k ≡ false → times (k ∷ ks) m ≡ times ks m
+times_apart : (k : SearchLeaf) (ks : List SearchLeaf) (m : SearchLeaf) → same_end m k ≡ false → times (k ∷ ks) m ≡ times ks m
 times_apart k ks m e = let z : times (k ∷ ks) m ≡ 0 + times ks m = times_more k ks m ∙ ap (λ (b : Bool). cond b 1 0 + times ks m) e in omega (arith, z)
 
-times_same : (ls : List Leaf) (l m : Leaf) → same_end l m ≡ true → times ls m ≡ times ls l
-times_same ls l m e = ap (λ (z : Ending). length (filter (λ (n : Leaf). ending_eq z n.ending) ls)) (sym (ending_same l.ending m.ending e))
+times_same : (ls : List SearchLeaf) (l m : SearchLeaf) → same_end l m ≡ true → times ls m ≡ times ls l
+times_same ls l m e = ap (λ (z : Ending). length (filter (λ (n : SearchLeaf). ending_eq z n.ending) ls)) (sym (ending_same l.ending m.ending e))
 
 -- those of the first leaves that end as a leaf does weigh what ends so
-one_weight : (x : Way) (ls : List Leaf) (l : Leaf) → weight x (times ls) (filter (same_end l) (firsts ls)) ≡ cond (ends_in x l) (times ls l) 0
+one_weight : (x : Way) (ls : List SearchLeaf) (l : SearchLeaf) → weight x (times ls) (filter (same_end l) (firsts ls)) ≡ cond (ends_in x l) (times ls l) 0
 one_weight x [] l = none (ends_in x l)
   where
     none : (b : Bool) → ◌≡◌ {A = ℕ} 0 (cond b 0 0)
@@ -138,13 +138,13 @@ one_weight x [] l = none (ends_in x l)
     none false = refl
 one_weight x (k ∷ ks) l = one (same_end l k) refl (one_weight x ks l)
   where
-    others : List Leaf
+    others : List SearchLeaf
     others = filter (λ m. not (same_end k m)) (firsts ks)
 
     alone : same_end l k ≡ true → filter (same_end l) others ≡ []
     alone e = none_of_both (same_end l) (λ m. not (same_end k m)) (firsts ks) (λ m h. ap not (same_as l k m e ∙ h))
 
-    apart : same_end l k ≡ false → (m : Leaf) → same_end l m ≡ true → same_end m k ≡ false
+    apart : same_end l k ≡ false → (m : SearchLeaf) → same_end l m ≡ true → same_end m k ≡ false
     apart e m h = same_as l m k h ∙ e
 
     whole : same_end l k ≡ false → filter (same_end l) others ≡ filter (same_end l) (firsts ks)
@@ -162,10 +162,10 @@ one_weight x (k ∷ ks) l = one (same_end l k) refl (one_weight x ks l)
         ∙ ap (λ (n : ℕ). cond (ends_in x l) n 0) (sym (times_apart k ks l e))
 
 -- all first leaves weigh what all leaves do
-all_weight : (x : Way) (ls : List Leaf) → weight x (times ls) (firsts ls) ≡ count_in x ls
+all_weight : (x : Way) (ls : List SearchLeaf) → weight x (times ls) (firsts ls) ≡ count_in x ls
 all_weight x [] = refl
 all_weight x (k ∷ ks) =
-    let others : List Leaf = filter (λ m. not (same_end k m)) (firsts ks) in
+    let others : List SearchLeaf = filter (λ m. not (same_end k m)) (firsts ks) in
     let here : times (k ∷ ks) k ≡ 1 + times ks k = times_more k ks k ∙ ap (λ (b : Bool). cond b 1 0 + times ks k) (ending_each k.ending) in
     let there : weight x (times (k ∷ ks)) others ≡ weight x (times ks) others =
     same_weight x (times (k ∷ ks)) (times ks) (λ m. not (same_end k m)) (firsts ks) (λ m h. times_apart k ks m (turned k m false (un_not (same_end k m) h))) in
@@ -181,7 +181,7 @@ all_weight x (k ∷ ks) =
 
 -- ---- what is told
 
-told_of_way : (x : Way) (ls fs : List Leaf) (cs : List Count) → fs ≡ firsts ls → cs ≡ map (λ l. counted (times ls l)) (firsts ls) → with_told x (Exactly 0) fs cs ≡ counted (count_in x ls)
+told_of_way : (x : Way) (ls fs : List SearchLeaf) (cs : List Count) → fs ≡ firsts ls → cs ≡ map (λ l. counted (times ls l)) (firsts ls) → with_told x (Exactly 0) fs cs ≡ counted (count_in x ls)
 told_of_way x ls fs cs e f = (λ i. with_told x (Exactly 0) (e i) (f i)) ∙ told_weight x 0 (times ls) (firsts ls) ∙ ap counted (let z = all_weight x ls in omega (arith, z))
 
 pub told_counts : (n : ℕ) (w : World) (o : Outcomes) (h : TellsRuns n w o) (x : Way) → with_told x (Exactly 0) o.firsts.leaves.items o.counts.items ≡ counted (count_in x (take h.runs (leaves_from n w)))

@@ -11,8 +11,8 @@ use Rattle.mpd_policy.specs.Wide.{wide_decision}
 use Rattle.mpd_model.specs.runs.Trail.{Standing}
 use Rattle.mpd_policy.specs.declared.ending.Ending.{Ending}
 use Rattle.mpd_policy.specs.declared.ending.Ending.TheVariants as ending_is
-use Rattle.mpd_policy.specs.declared.along.Stop.{Stop}
-use Rattle.mpd_policy.specs.declared.along.Stop.TheVariants.{Ended, Fuel, Untaken}
+use Rattle.mpd_policy.specs.declared.along.WalkEnd.{WalkEnd}
+use Rattle.mpd_policy.specs.declared.along.WalkEnd.TheVariants.{Ended, Fuel, Untaken}
 use Rattle.mpd_policy.specs.Walked.{Walked}
 use Rattle.mpd_policy.specs.Walked.Walked.{here, forced, chosen}
 use Rattle.mpd_policy.specs.Walk.{here as run_here, prefixed, ending_by, run_by}
@@ -57,7 +57,7 @@ module _ {C N M : Type 0} (stream : C → Stream) (noted : C → List ℕ) (name
   abbrev Drawing : C → ℕ → World → List ℕ → List Step → World → C → Type 0
   Drawing c n w cs p v e = Walked wide_decision (takes_drawn stream noted name mark) (stays {C = C}) c n w cs p v e
 
-  abbrev Drawn : ℕ → Standing → C → Stop → Standing → C → Type 0
+  abbrev Drawn : ℕ → Standing → C → WalkEnd → Standing → C → Type 0
   Drawn limit d c s e f = Walks wide_decision (takes_drawn stream noted name mark) (never_leaves {C = C}) (stays {C = C}) limit d c s e f
 
   drawn_along : (c e : C) (n l m : ℕ) (w v : World) (cs : List ℕ) (p : List Step) → l ≡ length p + m → Drawing c n w cs p v e → drawn l w (stream c) ≡ (cs ++ (drawn m v (stream e)).0, (drawn m v (stream e)).1)
@@ -101,7 +101,7 @@ module _ {C N M : Type 0} (stream : C → Stream) (noted : C → List ℕ) (name
         drawn_is = drawn_along c f d.trail.depth fuel m d.world e.world h.choices h.path left h.walked ∙ ap (λ (p : List ℕ × Stream). (h.choices ++ p.0, p.1)) (x.drawn_same (stream f)) ∙ ap (λ (l : List ℕ). (l, stream f)) whole;
       }
 
-  pub drew_by : (fuel base : ℕ) (d e : Standing) (c f : C) (s : Stop) (end : Ending) → noted c ≡ [] → base ≡ d.trail.depth → Drawn (base + fuel) d c s e f → Some end ≡ ending_after wide_decision s e.world → Drew fuel d (stream c) (noted f) end e (stream f)
+  pub drew_by : (fuel base : ℕ) (d e : Standing) (c f : C) (s : WalkEnd) (end : Ending) → noted c ≡ [] → base ≡ d.trail.depth → Drawn (base + fuel) d c s e f → Some end ≡ ending_after wide_decision s e.world → Drew fuel d (stream c) (noted f) end e (stream f)
   drew_by fuel base d e c f (Ended o) end empty at h x =
       let left : fuel ≡ length h.gone.path + suc (fuel - suc (length h.gone.path)) = (let y = h.gone.depth in let z = h.stops.2 in omega (arith, at, y, z)) in
       let m : ℕ = fuel - suc (length h.gone.path) in
@@ -113,17 +113,17 @@ module _ {C N M : Type 0} (stream : C → Stream) (noted : C → List ℕ) (name
       rw (h.stops.0) (drew fuel 0 d e c h.middle end empty h.gone left ends)
   drew_by fuel base d e c f Untaken end empty at h x = absurd h.stops.0.left
 
-  pub same_name : (limit : ℕ) (d e : Standing) (c f : C) (s : Stop) → Drawn limit d c s e f → name f ≡ name c
+  pub same_name : (limit : ℕ) (d e : Standing) (c f : C) (s : WalkEnd) → Drawn limit d c s e f → name f ≡ name c
   same_name limit d e c f (Ended o) h = ap name h.stops.0 ∙ name_along c h.middle d.trail.depth d.world e.world h.gone.choices h.gone.path h.gone.walked
   same_name limit d e c f Fuel h = ap name h.stops.0 ∙ name_along c h.middle d.trail.depth d.world e.world h.gone.choices h.gone.path h.gone.walked
   same_name limit d e c f Untaken h = absurd h.stops.0.left
 
-  pub same_mark : (limit : ℕ) (d e : Standing) (c f : C) (s : Stop) → Drawn limit d c s e f → mark f ≡ mark c
+  pub same_mark : (limit : ℕ) (d e : Standing) (c f : C) (s : WalkEnd) → Drawn limit d c s e f → mark f ≡ mark c
   same_mark limit d e c f (Ended o) h = ap mark h.stops.0 ∙ mark_along c h.middle d.trail.depth d.world e.world h.gone.choices h.gone.path h.gone.walked
   same_mark limit d e c f Fuel h = ap mark h.stops.0 ∙ mark_along c h.middle d.trail.depth d.world e.world h.gone.choices h.gone.path h.gone.walked
   same_mark limit d e c f Untaken h = absurd h.stops.0.left
 
-  pub always_ends : (limit : ℕ) (d e : Standing) (c f : C) (s : Stop) → Drawn limit d c s e f → None ≡ ending_after wide_decision s e.world → ⊥
+  pub always_ends : (limit : ℕ) (d e : Standing) (c f : C) (s : WalkEnd) → Drawn limit d c s e f → None ≡ ending_after wide_decision s e.world → ⊥
   always_ends limit d e c f (Ended o) h x = let no : ⊥ = cc in no
   always_ends limit d e c f Fuel h x = let no : ⊥ = cc in no
   always_ends limit d e c f Untaken h x = h.stops.0.left

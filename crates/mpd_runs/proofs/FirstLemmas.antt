@@ -9,8 +9,8 @@ use Rattle.mpd_model.specs.declared.decision.Decision.TheVariants.{Leaf}
 use Rattle.mpd_model.specs.steps.World.{World}
 use Rattle.mpd_model.specs.steps.Next.{next}
 use Rattle.mpd_model.specs.runs.Trail.{Standing, done_steps}
-use Rattle.mpd_policy.specs.declared.along.Stop.{Stop}
-use Rattle.mpd_policy.specs.declared.along.Stop.TheVariants.{Ended, Fuel, Untaken}
+use Rattle.mpd_policy.specs.declared.along.WalkEnd.{WalkEnd}
+use Rattle.mpd_policy.specs.declared.along.WalkEnd.TheVariants.{Ended, Fuel, Untaken}
 use Rattle.mpd_policy.specs.declared.choosers.First.{First}
 use Rattle.mpd_policy.specs.Walked.{Walked}
 use Rattle.mpd_policy.specs.Walked.Walked.{here, forced, chosen}
@@ -45,7 +45,7 @@ module _ (decide : World → Decision) where
   first_leaf (suc n) w o is = ap (from_first (on n) w) (ap first_of is)
 
   -- all of the fuel fits, where it is used up
-  pub lead : (base fuel few : ℕ) (is_cut : Bool) (d e : Standing) (c f : First) (s : Stop) → base ≡ d.trail.depth → few ≤ fuel → (is_cut ≡ false → few ≡ fuel)
+  pub lead : (base fuel few : ℕ) (is_cut : Bool) (d e : Standing) (c f : First) (s : WalkEnd) → base ≡ d.trail.depth → few ≤ fuel → (is_cut ≡ false → few ≡ fuel)
       → Walks decide takes_first never_leaves stays (base + few) d c s e f → (s ≡ Fuel → is_cut ≡ false) → done_steps e.trail ≡ done_steps d.trail ++ first_steps decide fuel d.world
   lead base fuel few is_cut d e c f (Ended o) at less whole h fits =
       let g = h.gone in

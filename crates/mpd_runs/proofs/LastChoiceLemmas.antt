@@ -9,7 +9,7 @@ use Rattle.mpd_model.specs.runs.Breakpoints.{no_breaks}
 use Rattle.mpd_model.specs.runs.Decisions.{decision}
 use Rattle.mpd_model.specs.runs.Running.{hit_at, ran_back, world_at}
 use Rattle.mpd_model.specs.runs.Trail.{Trail, Standing, IsReached, taken_back, gone_back, forgotten, world_of}
-use Rattle.mpd_core.specs.DebuggerViews.{AsFound}
+use Rattle.mpd_trail.specs.DebuggerViews.{AsFound}
 use Rattle.mpd_policy.specs.Last.{hit_by, last_hit}
 use Rattle.mpd_policy.proofs.LastLemmas.{last_there, last_at_start}
 use Rattle.mpd_policy.proofs.NumberLemmas.{no_hit_at}

@@ -13,13 +13,16 @@ use Rattle.mpd_model.specs.steps.Next.{fold}
 use Rattle.mpd_model.specs.runs.Decisions.{CanFollow}
 use Rattle.mpd_model.specs.runs.Trail.{Standing, done_steps, step_eq}
 use Rattle.mpd_policy.specs.Wide.{sleeps_on, wide_decision}
-use Rattle.mpd_explore.specs.declared.report.Leaf.{Leaf}
-use Rattle.mpd_explore.specs.declared.report.Limits.{Limits}
+use Rattle.mpd_explore.specs.declared.report.SearchLeaf.{SearchLeaf}
+use Rattle.mpd_explore.specs.declared.report.SearchLimits.{SearchLimits}
 use Rattle.mpd_policy.specs.Walk.{Run, wide_walk, run_by, steps_by}
 use Rattle.mpd_explore.specs.Report.{shown, is_bad}
 use Rattle.mpd_explore.specs.Sleeping.{awake_by}
 use Rattle.mpd_explore.specs.Witness.{HasWitness, witness_by}
 use Rattle.mpd_explore.specs.WitnessTexts.{behind_number, witness_text, witness_texts}
+use Rattle.mpd_explore.specs.declared.report.Witnesses.{Witnesses}
+use Rattle.mpd_explore.specs.declared.report.Witnesses.TheVariants.{OfNone, OfDeadlocks, OfAll}
+use Rattle.mpd_explore.specs.Asked.{are_asked, asked_text}
 use Rattle.mpd_explore.proofs.ListedLemmas.{not_less}
 use Rattle.mpd_explore.proofs.AwakeLemmas.{no_wide_sleeps}
 use Rattle.mpd_explore.proofs.WitnessLemmas.{awake_witnessed}
@@ -49,7 +52,7 @@ among_more (ds ∷ lists) cs r = ap (λ b. same_choices ds r.choices || b) (amon
 
 -- ---- a leaf at its place among those of the walk
 
-front_placed : (l : Leaf) (ls : List Leaf) → AllByRecursion (λ m. leaf_order m l ≡ Greater) ls → with_leaf l ls ≡ l ∷ ls
+front_placed : (l : SearchLeaf) (ls : List SearchLeaf) → AllByRecursion (λ m. leaf_order m l ≡ Greater) ls → with_leaf l ls ≡ l ∷ ls
 front_placed l [] h = refl
 front_placed l (m ∷ ms) h = ap (λ o. with_leaf_by o l m ms (with_leaf l ms)) h.0
 
@@ -112,14 +115,14 @@ unfolding IsStrictlySortedBy
 rises_leaves [] h = tt
 rises_leaves (x ∷ xs) h = (above_leaves x xs h.0, rises_leaves xs h.1)
 
-pub sample_rises : (lists : List (List ℕ)) (n : ℕ) (w : World) (leaves : List Leaf) → leaves ≡ map shown (sampled lists n w) → Rises leaves
+pub sample_rises : (lists : List (List ℕ)) (n : ℕ) (w : World) (leaves : List SearchLeaf) → leaves ≡ map shown (sampled lists n w) → Rises leaves
 sample_rises lists n w leaves is = rw is (rises_leaves (sampled lists n w) (IsStrictlySortedBy-filter run_order (is_among lists) (wide_walk n w) (walk_rises n w)))
 
 -- ---- a run that was drawn is added
 
 -- the leaf of a run that was drawn
-pub adds_leaf : (l : Limits) (d e : Standing) (s t : Stream) (x : Leaf) (old new : List Leaf) (texts now : List (List ℕ)) (last : Bool) → Drew l.fuel d s x.choices x.ending e t → last ≡ (l.until_bad && is_bad x.ending) → new ≡ with_leaf x old
-    → ((text : Leaf → List ℕ) → text x ≡ behind_number (witness_by (done_steps e.trail) x.ending) → TextsAre l.witnesses text old texts → TextsAre l.witnesses text new now) → Adds l d s old texts last new now t
+pub adds_leaf : (l : SearchLimits) (d e : Standing) (s t : Stream) (x : SearchLeaf) (old new : List SearchLeaf) (texts now : List (List ℕ)) (last : Bool) → Drew l.fuel d s x.choices x.ending e t → last ≡ (l.until_bad && is_bad x.ending) → new ≡ with_leaf x old
+    → ((text : SearchLeaf → List ℕ) → text x ≡ asked_text l.witnesses x.ending (behind_number (witness_by (done_steps e.trail) x.ending)) → TextsAre (are_asked l.witnesses) text old texts → TextsAre (are_asked l.witnesses) text new now) → Adds l d s old texts last new now t
 adds_leaf l d e s t x old new texts now last h is_last pushed told =
     record {
       run = record { choices = x.choices; steps = h.path; ending = x.ending };
@@ -127,7 +130,7 @@ adds_leaf l d e s t x old new texts now last h is_last pushed told =
       drawn_is = h.drawn_is;
       leaves_are = pushed;
       last_is = is_last;
-      texts_are = told (witness_text wide_decision (done_steps d.trail) l.fuel d.world) (ap (λ (o : Option Run). behind_number (witness_by (done_steps d.trail ++ steps_by o) x.ending)) h.run ∙ ap (λ p. behind_number (witness_by p x.ending)) (sym h.done_steps_are));
+      texts_are = told (witness_text wide_decision l.witnesses (done_steps d.trail) l.fuel d.world) (ap (λ (o : Option Run). asked_text l.witnesses x.ending (behind_number (witness_by (done_steps d.trail ++ steps_by o) x.ending))) h.run ∙ ap (λ p. asked_text l.witnesses x.ending (behind_number (witness_by p x.ending))) (sym h.done_steps_are));
     }
 
 draws_more : (u : Bool) (n k : ℕ) (w : World) (s : Stream) → draws u n (suc k) w s ≡ (drawn n w s).0 ∷ (if u && is_bad_run (run_by wide_decision n (drawn n w s).0 w) then [] else draws u n k w (drawn n w s).1)
@@ -145,21 +148,21 @@ draws_next u n k w s t r last is by is_last =
     ∙ ap (λ o. r.choices ∷ (if u && is_bad_run o then [] else draws u n k w t)) by
     ∙ ap (λ b. r.choices ∷ (if b then [] else draws u n k w t)) (sym is_last)
 
-one_longer : (l m : Leaf) (ms behind : List Leaf) (o : Ordering) → length behind ≤ suc (length ms) → length (with_leaf_by o l m ms behind) ≤ suc (suc (length ms))
+one_longer : (l m : SearchLeaf) (ms behind : List SearchLeaf) (o : Ordering) → length behind ≤ suc (length ms) → length (with_leaf_by o l m ms behind) ≤ suc (suc (length ms))
 one_longer l m ms behind Less h = omega (arith, h)
 one_longer l m ms behind Equal h = omega arith
 one_longer l m ms behind Greater h = omega arith
 
-longer : (l : Leaf) (ls : List Leaf) → length (with_leaf l ls) ≤ suc (length ls)
+longer : (l : SearchLeaf) (ls : List SearchLeaf) → length (with_leaf l ls) ≤ suc (length ls)
 longer l [] = omega arith
 longer l (m ∷ ms) = one_longer l m ms (with_leaf l ms) (leaf_order m l) (longer l ms)
 
-one_some : (l m : Leaf) (ms behind : List Leaf) (o : Ordering) → 0 < length (with_leaf_by o l m ms behind)
+one_some : (l m : SearchLeaf) (ms behind : List SearchLeaf) (o : Ordering) → 0 < length (with_leaf_by o l m ms behind)
 one_some l m ms behind Less = omega arith
 one_some l m ms behind Equal = omega arith
 one_some l m ms behind Greater = omega arith
 
-some_leaf : (l : Leaf) (ls : List Leaf) → 0 < length (with_leaf l ls)
+some_leaf : (l : SearchLeaf) (ls : List SearchLeaf) → 0 < length (with_leaf l ls)
 some_leaf l [] = omega arith
 some_leaf l (m ∷ ms) = one_some l m ms (with_leaf l ms) (leaf_order m l)
 
@@ -169,30 +172,30 @@ none_among : (rs : List Run) → filter (is_among []) rs ≡ []
 none_among [] = refl
 none_among (r ∷ rs) = none_among rs
 
-no_texts : (asked : Bool) (text : Leaf → List ℕ) (leaves : List Leaf) (texts : List (List ℕ)) → leaves ≡ [] → texts ≡ [] → TextsAre asked text leaves texts
+no_texts : (asked : Bool) (text : SearchLeaf → List ℕ) (leaves : List SearchLeaf) (texts : List (List ℕ)) → leaves ≡ [] → texts ≡ [] → TextsAre asked text leaves texts
 no_texts false text leaves texts none empty = empty
 no_texts true text leaves texts none empty = empty ∙ ap (map text) (sym none)
 
-pub sampling_none : (l : Limits) (before : List Step) (w : World) (first : Stream) (leaves : List Leaf) (texts : List (List ℕ)) → leaves ≡ [] → texts ≡ [] → Sampling l before w first 0 l.runs first leaves texts
+pub sampling_none : (l : SearchLimits) (before : List Step) (w : World) (first : Stream) (leaves : List SearchLeaf) (texts : List (List ℕ)) → leaves ≡ [] → texts ≡ [] → Sampling l before w first 0 l.runs first leaves texts
 sampling_none l before w first leaves texts none empty =
     record {
       found = [];
       joined = refl;
       runs_are = tt;
       leaves_are = none ∙ sym (ap (map shown) (none_among (wide_walk l.fuel w)));
-      texts_are = no_texts l.witnesses (witness_text wide_decision before l.fuel w) leaves texts none empty;
+      texts_are = no_texts (are_asked l.witnesses) (witness_text wide_decision l.witnesses before l.fuel w) leaves texts none empty;
       few = omega (arith, ap length none);
       some = λ h. absurd (omega (arith, h));
     }
 
-more_leaves : (l : Limits) (d : Standing) (s t : Stream) (found : List (List ℕ)) (old new : List Leaf) (texts now : List (List ℕ)) (last : Bool) (a : Adds l d s old texts last new now t) → old ≡ map shown (sampled found l.fuel d.world) → new ≡ map shown (sampled (found ++ a.run.choices ∷ []) l.fuel d.world)
+more_leaves : (l : SearchLimits) (d : Standing) (s t : Stream) (found : List (List ℕ)) (old new : List SearchLeaf) (texts now : List (List ℕ)) (last : Bool) (a : Adds l d s old texts last new now t) → old ≡ map shown (sampled found l.fuel d.world) → new ≡ map shown (sampled (found ++ a.run.choices ∷ []) l.fuel d.world)
 more_leaves l d s t found old new texts now last a is = a.leaves_are ∙ ap (with_leaf (shown a.run)) is ∙ sampled_more found l.fuel d.world a.run a.by
 
 runs_more : (n : ℕ) (w : World) (lists : List (List ℕ)) (r : Run) → AllByRecursion (TellsRun n w) lists → run_by wide_decision n r.choices w ≡ Some r → AllByRecursion (TellsRun n w) (lists ++ r.choices ∷ [])
 runs_more n w [] r h by = (record { run = r; by = by; same = refl }, tt)
 runs_more n w (cs ∷ lists) r h by = (h.0, runs_more n w lists r h.1 by)
 
-pub sampling_more : (l : Limits) (d : Standing) (first s t : Stream) (count k : ℕ) (old new : List Leaf) (texts now : List (List ℕ)) (last : Bool) → Sampling l (done_steps d.trail) d.world first count (suc k) s old texts → Adds l d s old texts last new now t → last ≡ false
+pub sampling_more : (l : SearchLimits) (d : Standing) (first s t : Stream) (count k : ℕ) (old new : List SearchLeaf) (texts now : List (List ℕ)) (last : Bool) → Sampling l (done_steps d.trail) d.world first count (suc k) s old texts → Adds l d s old texts last new now t → last ≡ false
     → Sampling l (done_steps d.trail) d.world first (count + 1) k t new now
 sampling_more l d first s t count k old new texts now last g a off =
     let next : draws l.until_bad l.fuel (suc k) d.world s ≡ a.run.choices ∷ draws l.until_bad l.fuel k d.world t =
@@ -208,16 +211,16 @@ sampling_more l d first s t count k old new texts now last g a off =
     }
 
 -- the same, told of a debugger that stands where another stood
-pub adds_at : (l : Limits) (e d : Standing) (s t : Stream) (old new : List Leaf) (texts now : List (List ℕ)) (last : Bool) → e.trail ≡ d.trail → e.world ≡ d.world → Adds l e s old texts last new now t → Adds l d s old texts last new now t
+pub adds_at : (l : SearchLimits) (e d : Standing) (s t : Stream) (old new : List SearchLeaf) (texts now : List (List ℕ)) (last : Bool) → e.trail ≡ d.trail → e.world ≡ d.world → Adds l e s old texts last new now t → Adds l d s old texts last new now t
 adds_at l e d s t old new texts now last trail world h = record { run = h.run; by = rw world at h.by; drawn_is = rw world at h.drawn_is; leaves_are = h.leaves_are; last_is = h.last_is; texts_are = rw (trail, world) at h.texts_are }
 
 -- so many are still to be drawn
-pub sampling_left : (l : Limits) (before : List Step) (w : World) (first : Stream) (count k m : ℕ) (s : Stream) (leaves : List Leaf) (texts : List (List ℕ)) → k ≡ m → Sampling l before w first count k s leaves texts → Sampling l before w first count m s leaves texts
+pub sampling_left : (l : SearchLimits) (before : List Step) (w : World) (first : Stream) (count k m : ℕ) (s : Stream) (leaves : List SearchLeaf) (texts : List (List ℕ)) → k ≡ m → Sampling l before w first count k s leaves texts → Sampling l before w first count m s leaves texts
 sampling_left l before w first count k m s leaves texts is h = rw is at h
 
 -- ---- in the end
 
-pub samples_last : (l : Limits) (d : Standing) (first s t : Stream) (count k : ℕ) (old new : List Leaf) (texts now : List (List ℕ)) (last : Bool) → Sampling l (done_steps d.trail) d.world first count (suc k) s old texts → Adds l d s old texts last new now t → last ≡ true → count < l.runs
+pub samples_last : (l : SearchLimits) (d : Standing) (first s t : Stream) (count k : ℕ) (old new : List SearchLeaf) (texts now : List (List ℕ)) (last : Bool) → Sampling l (done_steps d.trail) d.world first count (suc k) s old texts → Adds l d s old texts last new now t → last ≡ true → count < l.runs
     → Samples l (done_steps d.trail) d.world first new now
 samples_last l d first s t count k old new texts now last g a on within =
     let next : draws l.until_bad l.fuel (suc k) d.world s ≡ a.run.choices ∷ [] =
@@ -231,7 +234,7 @@ samples_last l d first s t count k old new texts now last g a on within =
       some = λ h. omega (arith, ap length a.leaves_are, some_leaf (shown a.run) old);
     }
 
-pub samples_all : (l : Limits) (before : List Step) (w : World) (first s : Stream) (count k : ℕ) (leaves : List Leaf) (texts : List (List ℕ)) → k ≡ 0 → count ≡ l.runs → Sampling l before w first count k s leaves texts → Samples l before w first leaves texts
+pub samples_all : (l : SearchLimits) (before : List Step) (w : World) (first s : Stream) (count k : ℕ) (leaves : List SearchLeaf) (texts : List (List ℕ)) → k ≡ 0 → count ≡ l.runs → Sampling l before w first count k s leaves texts → Samples l before w first leaves texts
 samples_all l before w first s count k leaves texts none all g =
     let whole : g.found ≡ draws l.until_bad l.fuel l.runs w first =
     sym (append-nil g.found) ∙ ap (λ (xs : List (List ℕ)). g.found ++ xs) (sym (ap (λ m. draws l.until_bad l.fuel m w s) none ∙ draws_none l.until_bad l.fuel w s)) ∙ g.joined in
@@ -243,27 +246,28 @@ samples_all l before w first s count k leaves texts none all g =
       some = λ h. g.some (omega (arith, h, all));
     }
 
-pub even_of : (asked : Bool) (text : Leaf → List ℕ) (leaves : List Leaf) (texts : List (List ℕ)) → TextsAre asked text leaves texts → IsEven asked leaves texts
+pub even_of : (asked : Bool) (text : SearchLeaf → List ℕ) (leaves : List SearchLeaf) (texts : List (List ℕ)) → TextsAre asked text leaves texts → IsEven asked leaves texts
 even_of false text leaves texts h = h
 even_of true text leaves texts h = ap length h ∙ length-map leaves text
 
-pub texts_told : (asked : Bool) (before : List Step) (n : ℕ) (w : World) (leaves : List Leaf) (texts : List (List ℕ)) → TextsAre asked (witness_text wide_decision before n w) leaves texts → texts ≡ witness_texts wide_decision asked before n w leaves
-texts_told false before n w leaves texts h = h
-texts_told true before n w leaves texts h = h
+pub texts_told : (asked : Witnesses) (before : List Step) (n : ℕ) (w : World) (leaves : List SearchLeaf) (texts : List (List ℕ)) → TextsAre (are_asked asked) (witness_text wide_decision asked before n w) leaves texts → texts ≡ witness_texts wide_decision asked before n w leaves
+texts_told OfNone before n w leaves texts h = h
+texts_told OfDeadlocks before n w leaves texts h = h
+texts_told OfAll before n w leaves texts h = h
 
 -- ---- each leaf has a witness
 
-kept_case : (P : Leaf → Type 0) (x : Run) (rest : List Run) (b : Bool) → P (shown x) → AllByRecursion P (map shown rest) → AllByRecursion P (map shown (cond b (x ∷ rest) rest))
+kept_case : (P : SearchLeaf → Type 0) (x : Run) (rest : List Run) (b : Bool) → P (shown x) → AllByRecursion P (map shown rest) → AllByRecursion P (map shown (cond b (x ∷ rest) rest))
 kept_case P x rest true h all = (h, all)
 kept_case P x rest false h all = all
 
-kept_all : (P : Leaf → Type 0) (p : Run → Bool) (xs : List Run) → AllByRecursion P (map shown xs) → AllByRecursion P (map shown (filter p xs))
+kept_all : (P : SearchLeaf → Type 0) (p : Run → Bool) (xs : List Run) → AllByRecursion P (map shown xs) → AllByRecursion P (map shown (filter p xs))
 kept_all P p [] h = tt
 kept_all P p (x ∷ xs) h = kept_case P x (filter p xs) (p x) h.0 (kept_all P p xs h.1)
 
-pub sample_witnessed : (s : Program) (mode : Mode) (before : List Step) (n : ℕ) (w : World) (lists : List (List ℕ)) (items : List Leaf) → ((v : World) → CanFollow v (wide_decision v)) → fold (start s mode) before ≡ Some w → items ≡ map shown (sampled lists n w) → AllByRecursion (HasWitness wide_decision s mode before n w) items
+pub sample_witnessed : (s : Program) (mode : Mode) (before : List Step) (n : ℕ) (w : World) (lists : List (List ℕ)) (items : List SearchLeaf) → ((v : World) → CanFollow v (wide_decision v)) → fold (start s mode) before ≡ Some w → items ≡ map shown (sampled lists n w) → AllByRecursion (HasWitness wide_decision s mode before n w) items
 sample_witnessed s mode before n w lists items law there is =
-    let all : List Leaf = map shown (wide_walk n w) in
+    let all : List SearchLeaf = map shown (wide_walk n w) in
     let first : all ≡ take (length all) (map shown (awake_by wide_decision step_eq sleeps_on false n [] w)) =
     sym (take_all (length all) all (omega arith)) ∙ ap (λ rs. take (length all) (map shown rs)) (sym (no_wide_sleeps n w)) in
     let held : AllByRecursion (HasWitness wide_decision s mode before n w) all = awake_witnessed wide_decision step_eq sleeps_on false [] s mode before n (length all) w all law there first in
@@ -304,7 +308,7 @@ each_listed lists before [] n w split h = tt
 each_listed lists before (cs ∷ rest) n w split h =
     (one_listed lists before rest n w cs split h.0, each_listed lists (before ++ cs ∷ []) rest n w (split ∙ sym (append_assoc before (cs ∷ []) rest)) h.1)
 
-pub sample_has_all : (lists : List (List ℕ)) (n : ℕ) (w : World) (leaves : List Leaf) → leaves ≡ map shown (sampled lists n w) → AllByRecursion (TellsRun n w) lists → AllByRecursion (λ cs. is_listed leaves cs ≡ true) lists
+pub sample_has_all : (lists : List (List ℕ)) (n : ℕ) (w : World) (leaves : List SearchLeaf) → leaves ≡ map shown (sampled lists n w) → AllByRecursion (TellsRun n w) lists → AllByRecursion (λ cs. is_listed leaves cs ≡ true) lists
 sample_has_all lists n w leaves is h = rw is (each_listed lists [] lists n w refl h)
 
 -- ---- where there are no others
@@ -332,7 +336,7 @@ more_is count n w more h = h ∙ ap (λ rs. nat_lt count (length (map shown rs))
 pub more_told : (count len n : ℕ) (w v : World) (more : Bool) → more ≡ nat_lt count (length (wide_walk n v)) → v ≡ w → count ≡ len → more ≡ nat_lt len (length (wide_walk n w))
 more_told count len n w v more h world same = h ∙ ap (λ u. nat_lt count (length (wide_walk n u))) world ∙ ap (λ m. nat_lt m (length (wide_walk n w))) same
 
-pub sample_all : (lists : List (List ℕ)) (n : ℕ) (w : World) (leaves : List Leaf) (more : Bool) → leaves ≡ map shown (sampled lists n w) → more ≡ nat_lt (length leaves) (length (wide_walk n w)) → more ≡ false → leaves ≡ map shown (wide_walk n w)
+pub sample_all : (lists : List (List ℕ)) (n : ℕ) (w : World) (leaves : List SearchLeaf) (more : Bool) → leaves ≡ map shown (sampled lists n w) → more ≡ nat_lt (length leaves) (length (wide_walk n w)) → more ≡ false → leaves ≡ map shown (wide_walk n w)
 sample_all lists n w leaves more is told none =
     let long : length (wide_walk n w) ≤ length leaves = not_less (length leaves) (length (wide_walk n w)) (sym told ∙ none) in
     is ∙ ap (map shown) (filter_all (is_among lists) (wide_walk n w) (omega (arith, long, ap length is, length-map (sampled lists n w) shown)))

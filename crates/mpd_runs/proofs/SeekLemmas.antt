@@ -12,9 +12,9 @@ use Rattle.mpd_policy.specs.Wide.{wide_decision}
 use Rattle.mpd_policy.proofs.WideLemmas.{wide_leaf}
 use Rattle.mpd_model.specs.runs.Decisions.{CanFollow}
 use Rattle.mpd_model.specs.runs.Trail.{Trail, done_steps, forgotten, IsReached}
-use Rattle.mpd_core.proofs.KeptLemmas.{fold-append}
+use Rattle.mpd_trail.proofs.KeptLemmas.{fold-append}
 use Rattle.mpd_policy.specs.declared.ending.Ending.{Ending}
-use Rattle.mpd_explore.specs.declared.report.Leaf as leaf
+use Rattle.mpd_explore.specs.declared.report.SearchLeaf as leaf
 use Rattle.mpd_policy.specs.Walk.{run_by, steps_by}
 use Rattle.mpd_explore.specs.Witness.{WitnessBy, HasWitness}
 use Rattle.mpd_runs.specs.declared.fault.WordsFault.{WordsFault}
@@ -77,7 +77,7 @@ lies_by t w n more e reached clean fits few leads witness =
       witness = witness;
     }
 
-pub lies_ahead : (t : Trail) (w : World) (n : ℕ) (l : leaf.Leaf) (r : WholeRun) → ((v : World) → CanFollow v (wide_decision v)) → IsReached (record { trail = t; world = w })
+pub lies_ahead : (t : Trail) (w : World) (n : ℕ) (l : leaf.SearchLeaf) (r : WholeRun) → ((v : World) → CanFollow v (wide_decision v)) → IsReached (record { trail = t; world = w })
     → length t.steps ≡ t.depth → t.depth + n ≤ 1000000 → HasWitness wide_decision t.program t.mode (done_steps t) n w l → r.steps ≡ done_steps t ++ steps_by (run_by wide_decision n l.choices w) → r.ending ≡ l.ending → LiesAhead t r
 lies_ahead t w n l r can reached clean fits h is e =
     let by : steps_by (run_by wide_decision n l.choices w) ≡ h.run.steps = ap steps_by h.by in
@@ -90,25 +90,25 @@ pub ruleset lying = (lies_ahead, led_steps)
 
 -- ---- what holds of each run holds of the first that ends in a way
 
-found_by : (P : leaf.Leaf → Type 0) (x : Way) (b : Bool) (l m : leaf.Leaf) (ls : List leaf.Leaf) → P l → ((first_in x ls ≡ Some m) → P m) → (if b then Some l else first_in x ls) ≡ Some m → P m
+found_by : (P : leaf.SearchLeaf → Type 0) (x : Way) (b : Bool) (l m : leaf.SearchLeaf) (ls : List leaf.SearchLeaf) → P l → ((first_in x ls ≡ Some m) → P m) → (if b then Some l else first_in x ls) ≡ Some m → P m
 found_by P x true l m ls h more e = let is : l ≡ m = cc in subst P is h
 found_by P x false l m ls h more e = more e
 
-found_all : (P : leaf.Leaf → Type 0) (x : Way) (ls : List leaf.Leaf) (m : leaf.Leaf) → AllByRecursion P ls → first_in x ls ≡ Some m → P m
+found_all : (P : leaf.SearchLeaf → Type 0) (x : Way) (ls : List leaf.SearchLeaf) (m : leaf.SearchLeaf) → AllByRecursion P ls → first_in x ls ≡ Some m → P m
 found_all P x [] m h e = absurd cc
 found_all P x (l ∷ ls) m h e = found_by P x (ends_in x l) l m ls h.0 (found_all P x ls m h.1) e
 
-pub found_has : (s : Program) (mode : Mode) (before : List Step) (n : ℕ) (w : World) (x : Way) (ls : List leaf.Leaf) (l : leaf.Leaf) → AllByRecursion (HasWitness wide_decision s mode before n w) ls → first_in x ls ≡ Some l → HasWitness wide_decision s mode before n w l
+pub found_has : (s : Program) (mode : Mode) (before : List Step) (n : ℕ) (w : World) (x : Way) (ls : List leaf.SearchLeaf) (l : leaf.SearchLeaf) → AllByRecursion (HasWitness wide_decision s mode before n w) ls → first_in x ls ≡ Some l → HasWitness wide_decision s mode before n w l
 found_has s mode before n w x ls l h e = found_all (HasWitness wide_decision s mode before n w) x ls l h e
 
-run_is : (before : List Step) (n : ℕ) (w : World) (l : leaf.Leaf) (r : WholeRun) → r.steps ≡ before ++ steps_by (run_by wide_decision n l.choices w) → r.ending ≡ l.ending → r ≡ whole_run before n w l
+run_is : (before : List Step) (n : ℕ) (w : World) (l : leaf.SearchLeaf) (r : WholeRun) → r.steps ≡ before ++ steps_by (run_by wide_decision n l.choices w) → r.ending ≡ l.ending → r ≡ whole_run before n w l
 run_is before n w l r is e = λ i. record { steps = is i; ending = e i }
 
-pub found_value : (before : List Step) (n : ℕ) (w : World) (o : Option leaf.Leaf) (l : leaf.Leaf) (r : WholeRun) → o ≡ Some l → r.steps ≡ before ++ steps_by (run_by wide_decision n l.choices w) → r.ending ≡ l.ending
+pub found_value : (before : List Step) (n : ℕ) (w : World) (o : Option leaf.SearchLeaf) (l : leaf.SearchLeaf) (r : WholeRun) → o ≡ Some l → r.steps ≡ before ++ steps_by (run_by wide_decision n l.choices w) → r.ending ≡ l.ending
     → Some r ≡ option_map (whole_run before n w) o
 found_value before n w o l r some is e = ap Some (run_is before n w l r is e) ∙ ap (option_map (whole_run before n w)) (sym some)
 
-pub none_value : (before : List Step) (n : ℕ) (w : World) (o : Option leaf.Leaf) → o ≡ None → None ≡ option_map (whole_run before n w) o
+pub none_value : (before : List Step) (n : ℕ) (w : World) (o : Option leaf.SearchLeaf) → o ≡ None → None ≡ option_map (whole_run before n w) o
 none_value before n w o none = ap (option_map (whole_run before n w)) (sym none)
 
 pub ruleset finding = (found_has, found_value, none_value)
@@ -138,11 +138,11 @@ sought_on x t u v w n s k same fuel h stopped =
 
 -- ---- among the runs that are listed
 
-pub listed_found : (x : Way) (before : List Step) (n : ℕ) (w : World) (leaves : List leaf.Leaf) (others : Bool) (o : Option WholeRun) (r : WholeRun) → Looked x n w leaves others
+pub listed_found : (x : Way) (before : List Step) (n : ℕ) (w : World) (leaves : List leaf.SearchLeaf) (others : Bool) (o : Option WholeRun) (r : WholeRun) → Looked x n w leaves others
     → o ≡ option_map (whole_run before n w) (first_in x leaves) → o ≡ Some r → found_in Listed x before n w ≡ Some r
 listed_found x before n w leaves others o r h is e = ap (option_map (whole_run before n w)) (sym h.first) ∙ sym is ∙ e
 
-pub listed_none : (x : Way) (before : List Step) (n : ℕ) (w : World) (leaves : List leaf.Leaf) (others : Bool) (o : Option WholeRun) (counts : WayCounts) → Looked x n w leaves others
+pub listed_none : (x : Way) (before : List Step) (n : ℕ) (w : World) (leaves : List leaf.SearchLeaf) (others : Bool) (o : Option WholeRun) (counts : WayCounts) → Looked x n w leaves others
     → o ≡ option_map (whole_run before n w) (first_in x leaves) → o ≡ None → counts ≡ counts_of leaves others → (found_in Listed x before n w ≡ None) × (counts ≡ counts_in Listed n w)
 listed_none x before n w leaves others o counts h is e told =
     let first : first_in x leaves ≡ None = unmapped (whole_run before n w) (first_in x leaves) (sym is ∙ e) in
@@ -174,18 +174,18 @@ pub ruleset seeking = (states_found, states_none, states_stopped, found_lies, so
 
 -- ---- the run of a number
 
-all_at : (P : leaf.Leaf → Type 0) (ls : List leaf.Leaf) (i : ℕ) (l : leaf.Leaf) → AllByRecursion P ls → slice_get ls i ≡ Some l → P l
+all_at : (P : leaf.SearchLeaf → Type 0) (ls : List leaf.SearchLeaf) (i : ℕ) (l : leaf.SearchLeaf) → AllByRecursion P ls → slice_get ls i ≡ Some l → P l
 all_at P [] i l h e = absurd cc
 all_at P (m ∷ ls) zero l h e = let is : m ≡ l = cc in subst P is h.0
 all_at P (m ∷ ls) (suc i) l h e = all_at P ls i l h.1 e
 
-pub number_has : (s : Program) (mode : Mode) (before : List Step) (n i : ℕ) (w : World) (ls : List leaf.Leaf) (l : leaf.Leaf) → AllByRecursion (HasWitness wide_decision s mode before n w) ls → slice_get ls i ≡ Some l → HasWitness wide_decision s mode before n w l
+pub number_has : (s : Program) (mode : Mode) (before : List Step) (n i : ℕ) (w : World) (ls : List leaf.SearchLeaf) (l : leaf.SearchLeaf) → AllByRecursion (HasWitness wide_decision s mode before n w) ls → slice_get ls i ≡ Some l → HasWitness wide_decision s mode before n w l
 number_has s mode before n i w ls l h e = all_at (HasWitness wide_decision s mode before n w) ls i l h e
 
-pub last_taken : (n : ℕ) (xs : List leaf.Leaf) → 0 < n → slice_get (take n xs) (n - 1) ≡ slice_get xs (n - 1)
+pub last_taken : (n : ℕ) (xs : List leaf.SearchLeaf) → 0 < n → slice_get (take n xs) (n - 1) ≡ slice_get xs (n - 1)
 last_taken n xs some = taken n xs (n - 1) (omega (arith, some))
   where
-    taken : (n : ℕ) (xs : List leaf.Leaf) (i : ℕ) → i < n → slice_get (take n xs) i ≡ slice_get xs i
+    taken : (n : ℕ) (xs : List leaf.SearchLeaf) (i : ℕ) → i < n → slice_get (take n xs) i ≡ slice_get xs i
     taken zero xs i lt = absurd (omega (arith, lt))
     taken (suc n) [] i lt = refl
     taken (suc n) (x ∷ xs) zero lt = refl
@@ -200,7 +200,7 @@ number_some (suc n) e = omega arith
 pub not_numbered : (n : ℕ) (t : Trail) (w : World) → is_number n ≡ false → None ≡ numbered_run n t w
 not_numbered n t w e = sym (ap (λ (b : Bool). if b then option_map (whole_run (done_steps t) (fuel_at t.depth) w) (slice_get (all_runs (fuel_at t.depth) w) (n - 1)) else None) e)
 
-pub numbered_is : (n : ℕ) (t u : Trail) (v w : World) (fuel : ℕ) (leaves : List leaf.Leaf) (o : Option WholeRun) → is_number n ≡ true → done_steps u ≡ done_steps t → v ≡ w → fuel ≡ fuel_at t.depth
+pub numbered_is : (n : ℕ) (t u : Trail) (v w : World) (fuel : ℕ) (leaves : List leaf.SearchLeaf) (o : Option WholeRun) → is_number n ≡ true → done_steps u ≡ done_steps t → v ≡ w → fuel ≡ fuel_at t.depth
     → leaves ≡ ended_by false (first_runs n fuel v) → o ≡ option_map (whole_run (done_steps u) fuel v) (slice_get leaves (n - 1)) → o ≡ numbered_run n t w
 numbered_is n t u v w fuel leaves o number k same enough is e =
     e ∙ ap (λ ls. option_map (whole_run (done_steps u) fuel v) (slice_get ls (n - 1))) is

@@ -6,7 +6,7 @@ use Rattle.mpd_model.specs.declared.decision.Decision.{Decision}
 use Rattle.mpd_model.specs.script.Program.{Program}
 use Rattle.mpd_model.specs.steps.World.{World, start}
 use Rattle.mpd_model.specs.runs.Trail.{Standing, first_standing}
-use Rattle.mpd_lines.specs.Seen.{SinkSeen}
+use Rattle.mpd_model.specs.devices.Seen.{SinkSeen}
 use Rattle.mpd_policy.specs.Walk.{Run, run_by}
 use Rattle.mpd_lines.specs.declared.engine.EngineFault.TheVariants.{ReadFailed, WriteFailed, TooManyTurns, Memory}
 use Rattle.mpd_runs.specs.declared.fault.WordsFault.{WordsFault}

@@ -1,6 +1,6 @@
 -- How many runs end in each way.
 use Rattle.std.specs.Prelude.{ℕ, ◌==◌, Bool, false, List, [], ◌∷◌, length, if◌then◌else◌}
-use Rattle.mpd_explore.specs.declared.report.Leaf.{Leaf}
+use Rattle.mpd_explore.specs.declared.report.SearchLeaf.{SearchLeaf}
 use Rattle.mpd_outcomes.specs.declared.report.Count.{Count}
 use Rattle.mpd_outcomes.specs.declared.report.Count.TheVariants.{Exactly, More}
 use Rattle.mpd_outcomes.specs.declared.report.Outcomes.{Outcomes}
@@ -11,7 +11,7 @@ use Rattle.mpd_runs.specs.declared.way.Way.TheVariants.{Done, Leftovers, Deadloc
 use Rattle.mpd_runs.specs.Ways.{count_in, ends_in}
 
 -- of some runs, beside which there may be more
-abbrev pub counts_of : List Leaf → Bool → WayCounts
+abbrev pub counts_of : List SearchLeaf → Bool → WayCounts
 counts_of leaves more = record {
   done = counted (count_in Done leaves);
   leftovers = counted (count_in Leftovers leaves);
@@ -35,7 +35,7 @@ is_count n (Exactly k) = k == n
 is_count n More = false
 
 -- Runs are told by the first of each end and how many end so: what those that end in a way come to, added to a count.
-abbrev pub with_told : Way → Count → List Leaf → List Count → Count
+abbrev pub with_told : Way → Count → List SearchLeaf → List Count → Count
 with_told x sum [] cs = sum
 with_told x sum (l ∷ ls) [] = sum
 with_told x sum (l ∷ ls) (c ∷ cs) = with_told x (if ends_in x l then plus sum c else sum) ls cs

@@ -12,7 +12,7 @@ use Rattle.mpd_model.specs.declared.decision.Decision.TheVariants.{Forced, Choic
 use Rattle.mpd_model.specs.steps.World.{World}
 use Rattle.mpd_model.specs.steps.Next.{next}
 use Rattle.mpd_policy.specs.Wide.{wide_decision}
-use Rattle.mpd_explore.specs.declared.report.Leaf as leaf
+use Rattle.mpd_explore.specs.declared.report.SearchLeaf as leaf
 use Rattle.mpd_policy.specs.Walk.{Run, wide_walk, run_by}
 use Rattle.mpd_explore.specs.Report.{is_bad}
 use Rattle.mpd_runs.specs.Order.{same_choices}
@@ -71,5 +71,5 @@ abbrev pub sampled : List (List ℕ) → ℕ → World → List Run
 sampled lists n w = filter (is_among lists) (wide_walk n w)
 
 -- whether a leaf with these choices is one of some
-abbrev pub is_listed : List leaf.Leaf → List ℕ → Bool
+abbrev pub is_listed : List leaf.SearchLeaf → List ℕ → Bool
 is_listed leaves cs = list_any (λ l. same_choices l.choices cs) leaves

@@ -8,7 +8,7 @@ use Rattle.mpd_model.specs.runs.Trail.{Trail}
 use Rattle.mpd_model.specs.texts.Texts.{line, spaced}
 use Rattle.mpd_policy.specs.declared.ending.Ending.{Ending}
 use Rattle.mpd_policy.specs.declared.ending.Ending.TheVariants.{Ended, Cut}
-use Rattle.mpd_explore.specs.declared.report.Leaf.{Leaf}
+use Rattle.mpd_explore.specs.declared.report.SearchLeaf.{SearchLeaf}
 use Rattle.mpd_explore.specs.Sleeping.{walk_by}
 use Rattle.mpd_explore.specs.Report.{shown}
 use Rattle.mpd_names.specs.Ends.{end_name, end_places}
@@ -27,11 +27,11 @@ abbrev pub fuel_at : ℕ → ℕ
 fuel_at depth = if nat_lt (STEPS_MAX - depth) FUEL then STEPS_MAX - depth else FUEL
 
 -- all runs from a world with so much fuel, in the order of their choices
-abbrev pub all_runs : ℕ → World → List Leaf
+abbrev pub all_runs : ℕ → World → List SearchLeaf
 all_runs fuel w = map shown (walk_by true fuel w)
 
 -- the first so many of them, and whether there are more
-abbrev pub first_runs : ℕ → ℕ → World → List Leaf
+abbrev pub first_runs : ℕ → ℕ → World → List SearchLeaf
 first_runs n fuel w = take n (all_runs fuel w)
 
 abbrev pub are_more : ℕ → ℕ → World → Bool
@@ -70,10 +70,10 @@ abbrev pub ending_words : List ℕ → Ending → List ℕ
 ending_words lines e = ending_name e ++ ending_places lines e
 
 -- `3 choices 1 2: deadlock: rank 0 at line 9, rank 2 at line 13`, where so many runs stand before it
-abbrev pub leaf_line : List ℕ → ℕ → Leaf → List ℕ
+abbrev pub leaf_line : List ℕ → ℕ → SearchLeaf → List ℕ
 leaf_line lines place l = line (decimal (place + 1) ++ 32 ∷ choices_words l.choices ++ codes ": " ++ ending_words lines l.ending)
 
-abbrev pub leaf_lines : List ℕ → ℕ → List Leaf → List ℕ
+abbrev pub leaf_lines : List ℕ → ℕ → List SearchLeaf → List ℕ
 leaf_lines lines place [] = []
 leaf_lines lines place (l ∷ ls) = leaf_line lines place l ++ leaf_lines lines (suc place) ls
 
@@ -109,7 +109,7 @@ total_line counts = line (runs_words counts.total ++ more_words counts.more ++ t
 abbrev pub orders_line : List ℕ
 orders_line = line (codes "one run for all orders of independent steps; diagnose counts each order")
 
-abbrev pub report_text : List ℕ → List Leaf → Bool → List ℕ
+abbrev pub report_text : List ℕ → List SearchLeaf → Bool → List ℕ
 report_text lines leaves more = leaf_lines lines 0 leaves ++ total_line (counts_of leaves more) ++ orders_line
 
 abbrev pub no_number_line : List ℕ

@@ -11,7 +11,7 @@ use Rattle.mpd_model.specs.texts.Texts.{line}
 use Rattle.mpd_policy.specs.Wide.{wide_decision}
 use Rattle.mpd_policy.specs.declared.ending.Ending.{Ending}
 use Rattle.mpd_policy.specs.declared.ending.Ending.TheVariants.{Ended, Cut}
-use Rattle.mpd_explore.specs.declared.report.Leaf.{Leaf}
+use Rattle.mpd_explore.specs.declared.report.SearchLeaf.{SearchLeaf}
 use Rattle.mpd_policy.specs.Walk.{run_by, steps_by}
 use Rattle.mpd_explore.specs.Report.{any_bad}
 use Rattle.mpd_explore.specs.Witness.{WitnessBy}
@@ -38,18 +38,18 @@ use Rattle.mpd_runs.specs.Runs.{fuel_at, all_runs, first_runs, are_more, is_numb
 -- ---- the first run that ends so
 
 -- runs up to the first deadlock or trap are too few where one is there, and none is looked for
-abbrev pub falls_short : Way → List Leaf → Bool
+abbrev pub falls_short : Way → List SearchLeaf → Bool
 falls_short x leaves = any_bad leaves && is_none (first_in x leaves)
 
 -- It was looked at far enough: the first such run is found, or all of the first runs are known.
-pub record Looked (x : Way) (fuel : ℕ) (w : World) (leaves : List Leaf) (others : Bool) : Type 0 where
+pub record Looked (x : Way) (fuel : ℕ) (w : World) (leaves : List SearchLeaf) (others : Bool) : Type 0 where
   pub first : first_in x leaves ≡ first_in x (first_runs RUNS_MAX fuel w)
   pub all : first_in x leaves ≡ None → leaves ≡ first_runs RUNS_MAX fuel w
   pub rest : first_in x leaves ≡ None → others ≡ are_more RUNS_MAX fuel w
 
 -- The runs that are looked at: all of the wide walk, by coming to each state once, or the first of those that are listed; and whether
 -- there are more.
-abbrev pub runs_in : Scope → ℕ → World → List Leaf
+abbrev pub runs_in : Scope → ℕ → World → List SearchLeaf
 runs_in WideWalk fuel w = leaves_from fuel w
 runs_in Listed fuel w = first_runs RUNS_MAX fuel w
 
@@ -67,7 +67,7 @@ nothing_line k x t w = none_line x (counts_in k (fuel_at t.depth) w)
 -- ---- from the start of the script
 
 -- some steps and those of a run from there, and how it ends
-abbrev pub whole_run : List Step → ℕ → World → Leaf → WholeRun
+abbrev pub whole_run : List Step → ℕ → World → SearchLeaf → WholeRun
 whole_run before fuel w l = record { steps = before ++ steps_by (run_by wide_decision fuel l.choices w); ending = l.ending }
 
 -- the first of the runs that are looked at which ends so, after some steps

@@ -2,15 +2,15 @@
 
 ghost use Rattle.std.specs.Prelude.{◌≡◌, ◌+◌, ◌≤◌, ℕ, IfOk, Err, length, drop};
 ghost use Rattle.mpd_model.specs.runs.Trail.{done_steps};
-ghost use Rattle.mpd_core.specs.DebuggerViews.{AsFound, standing_of};
+ghost use Rattle.mpd_trail.specs.DebuggerViews.{AsFound, standing_of};
 ghost use Rattle.mpd_runs.specs.Led.{Led};
 ghost use Rattle.mpd_policy.specs.Walks.{Beyond};
 ghost use Rattle.mpd_runs.specs.Along.{Ends, GoesOn};
 
 use crate::fault::WordsFault;
-use mpd_core::Debugger;
 use mpd_model::{STEPS_MAX, StepList};
 use mpd_policy::{ByChoices, Schedule, put_back, walk};
+use mpd_trail::Debugger;
 use std::alloc::Global;
 
 /// If the run is over, no choice may be left.

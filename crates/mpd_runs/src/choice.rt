@@ -2,13 +2,14 @@
 
 ghost use Rattle.std.specs.Prelude.{◌≡◌, ◌++◌, ◌<◌, IfOk, OnOk, length, string_bytes};
 ghost use Rattle.mpd_model.specs.runs.Decisions.{decision};
-ghost use Rattle.mpd_core.specs.DebuggerViews.{AsFound, standing_of};
+ghost use Rattle.mpd_trail.specs.DebuggerViews.{AsFound, standing_of};
 ghost use Rattle.mpd_policy.specs.Last.{last_hit as last_hit_of};
 ghost use Rattle.mpd_runs.specs.LastChoice as spec;
 
-use mpd_core::{Core, Debugger};
+use mpd_core::Core;
 use mpd_model::Decision;
 use mpd_policy::{Breaks, decide, last_hit};
+use mpd_trail::Debugger;
 use std::alloc::{AllocError, Global};
 
 /// Whether a choice is open, of two candidates or more.

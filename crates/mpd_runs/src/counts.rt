@@ -8,7 +8,7 @@ ghost use Rattle.mpd_runs.specs.Ways.{count_in as count_of_way};
 ghost use Rattle.mpd_runs.specs.Counts as spec;
 
 use crate::way::{Way, count_in, ends_in};
-use mpd_explore::Leaf;
+use mpd_explore::SearchLeaf;
 use mpd_outcomes::{Count, Outcomes};
 
 /// How many of some runs end in each way, how many they are, and whether there are more.
@@ -51,14 +51,14 @@ pub fn is_count(count: Count, many: u64) -> bool
 }
 
 /// How many runs end in a way.
-fn listed_in(way: Way, leaves: &[Leaf]) -> Count
+fn listed_in(way: Way, leaves: &[SearchLeaf]) -> Count
     ensures { result ≡ counted (count_of_way way leaves.now) }
 {
     Count::Exactly(count_in(way, leaves) as u64)
 }
 
 /// How some runs end, beside which there may be more.
-pub(crate) fn counts_of(leaves: &[Leaf], more: bool) -> WayCounts
+pub(crate) fn counts_of(leaves: &[SearchLeaf], more: bool) -> WayCounts
     ensures { result ≡ spec.counts_of leaves.now more }
 {
     WayCounts {
@@ -73,7 +73,7 @@ pub(crate) fn counts_of(leaves: &[Leaf], more: bool) -> WayCounts
 }
 
 /// How many of the runs end in a way that are told by the first of each end and how many end so.
-fn told_in(way: Way, firsts: &[Leaf], counts: &[Count]) -> Count
+fn told_in(way: Way, firsts: &[SearchLeaf], counts: &[Count]) -> Count
     ensures { result ≡ spec.with_told way (count_is.Exactly 0) firsts.now counts.now }
 {
     let mut sum = Count::Exactly(0);

@@ -2,15 +2,15 @@
 
 ghost use Rattle.std.specs.Prelude.{◌≡◌, ℕ, [], ◌+◌, ◌<◌, ◌≤◌, IfOk, OnOk};
 ghost use Rattle.rand.specs.Uniform.{usize_single};
-ghost use Rattle.mpd_core.specs.DebuggerViews.{standing_of};
+ghost use Rattle.mpd_trail.specs.DebuggerViews.{standing_of};
 ghost use Rattle.mpd_policy.specs.Choosers.{never_leaves, stays};
 ghost use Rattle.mpd_policy.specs.Walks.{Beyond};
 ghost use Rattle.mpd_runs.specs.Drawing.{Drew, takes_drawn};
 
-use mpd_core::Debugger;
-use mpd_explore::{ChoiceList, Ending, Leaf};
+use mpd_explore::{ChoiceList, Ending, SearchLeaf};
 use mpd_model::{STEPS_MAX, Step, StepList};
 use mpd_policy::{Chooser, Wide, ending_of, walk};
+use mpd_trail::Debugger;
 use rand::{Rng, RngExt};
 use std::alloc::{AllocError, Global};
 
@@ -82,14 +82,14 @@ pub(crate) fn draw_leaf<R: Rng>(
     debugger: &mut Debugger<'_>,
     fuel: usize,
     random: &mut R,
-) -> Result<Leaf, AllocError>
+) -> Result<SearchLeaf, AllocError>
     requires fits { debugger.old.trail.depth + fuel ≤ STEPS_MAX }
     ensures drew { IfOk result (λ l. Drew fuel (standing_of debugger.old) (R.stream random.old) l.choices l.ending (standing_of debugger.new) (R.stream random.new)) }
     ensures beyond { Beyond (standing_of debugger.old) (standing_of debugger.new) }
 {
     let mut items = Vec::new(alloc);
     match draw_run(alloc, debugger, fuel, random, &mut items) {
-        Ok(ending) => Ok(Leaf {
+        Ok(ending) => Ok(SearchLeaf {
             choices: ChoiceList { items },
             ending,
         }),

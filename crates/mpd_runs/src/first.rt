@@ -2,27 +2,27 @@
 
 ghost use Rattle.std.specs.Prelude.{◌≡◌, ◌++◌, OnOk, false};
 ghost use Rattle.mpd_model.specs.runs.Trail.{done_steps};
-ghost use Rattle.mpd_policy.specs.declared.along.Stop.TheVariants as stop_is;
+ghost use Rattle.mpd_policy.specs.declared.along.WalkEnd.TheVariants as stop_is;
 ghost use Rattle.mpd_runs.specs.First.{first_steps};
 
-use mpd_core::Debugger;
 use mpd_model::STEPS_MAX;
-use mpd_policy::{First, Schedule, Stop, walk};
+use mpd_policy::{First, Schedule, WalkEnd, walk};
+use mpd_trail::Debugger;
 use std::alloc::{AllocError, Global};
 
 /// A walk whose fuel was cut short must have stopped before it was used up.
-fn fits(stop: Stop, is_cut: bool) -> Result<(), AllocError>
+fn fits(stop: WalkEnd, is_cut: bool) -> Result<(), AllocError>
     ensures { OnOk result (stop ≡ stop_is.Fuel → is_cut ≡ false) }
 {
     match stop {
-        Stop::Fuel => {
+        WalkEnd::Fuel => {
             if is_cut {
                 return Err(AllocError);
             }
             Ok(())
         }
-        Stop::Ended(_) => Ok(()),
-        Stop::Untaken => Ok(()),
+        WalkEnd::Ended(_) => Ok(()),
+        WalkEnd::Untaken => Ok(()),
     }
 }
 

@@ -5,8 +5,8 @@ ghost use Rattle.mpd_model.specs.steps.Next.{fold, next};
 ghost use Rattle.mpd_model.specs.runs.Trail.{done_steps};
 ghost use Rattle.mpd_runs.specs.Given.{StopsAt};
 
-use mpd_core::{ApplyFault, Debugger};
 use mpd_model::Step;
+use mpd_trail::{ApplyFault, Debugger};
 
 /// Why steps aren't taken.
 #[derive(Clone, Copy)]

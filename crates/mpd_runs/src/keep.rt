@@ -4,14 +4,15 @@ ghost use Rattle.std.specs.Prelude.{◌≡◌, true, ◌+◌, ◌<◌, ◌≤◌
 ghost use Rattle.std.specs.List.{insert};
 ghost use Rattle.std.specs.Ordering.{is_lt, is_eq};
 ghost use Rattle.mpd_model.specs.runs.Trail.{done_steps};
-ghost use Rattle.mpd_explore.specs.declared.report.Leaf as leaves;
+ghost use Rattle.mpd_explore.specs.declared.report.SearchLeaf as leaves;
 ghost use Rattle.mpd_explore.specs.Witness.{witness_by};
 ghost use Rattle.mpd_explore.specs.WitnessTexts.{behind_number};
+ghost use Rattle.mpd_explore.specs.Asked.{are_asked, asked_text};
 ghost use Rattle.mpd_runs.specs.Order.{order, Rises, with_leaf};
 ghost use Rattle.mpd_runs.specs.Drawing.{IsPlace, begins_with, TextsAre, IsEven, in_box, leaves_in, texts_in};
 
-use mpd_core::Debugger;
-use mpd_explore::{Ending, Leaf, Report, witness_here};
+use mpd_explore::{Ending, SearchLeaf, SearchReport, Witnesses, witness_here};
+use mpd_trail::Debugger;
 use std::alloc::{AllocError, Global};
 use std::cmp::Ordering;
 
@@ -19,7 +20,7 @@ use std::cmp::Ordering;
 /// that what is put between others moves a pointer of each of those after it.
 #[derive(Drop)]
 pub(crate) struct Held {
-    leaves: Vec<Box<Leaf>>,
+    leaves: Vec<Box<SearchLeaf>>,
     texts: Vec<Box<String>>,
 }
 
@@ -49,7 +50,7 @@ fn unboxed<T: Drop>(alloc: Global, boxes: Vec<Box<T>>) -> Result<Vec<T>, AllocEr
 }
 
 /// The report of what was held, in which nothing is said of other runs.
-pub(crate) fn report_of(alloc: Global, held: Held) -> Result<Report, AllocError>
+pub(crate) fn report_of(alloc: Global, held: Held) -> Result<SearchReport, AllocError>
     ensures leaves { IfOk result (λ r. r.leaves.items ≡ leaves_in held.leaves) }
     ensures texts { IfOk result (λ r. map string_bytes r.witnesses.items ≡ texts_in held.texts) }
     ensures memory { OnErr result (0 < vec_len held.leaves + vec_len held.texts) }
@@ -57,7 +58,7 @@ pub(crate) fn report_of(alloc: Global, held: Held) -> Result<Report, AllocError>
     let Held { leaves, texts } = held;
     let leaves = unboxed(alloc, leaves)?;
     let witnesses = unboxed(alloc, texts)?;
-    Ok(Report {
+    Ok(SearchReport {
         leaves,
         more: false,
         witnesses,
@@ -72,7 +73,7 @@ fn order_of(one: &[usize], other: &[usize]) -> Ordering
 }
 
 /// Whether a leaf comes before some choices.
-fn comes_before(leaf: &Leaf, choices: &[usize]) -> bool
+fn comes_before(leaf: &SearchLeaf, choices: &[usize]) -> bool
     ensures { result ≡ is_lt (order leaf.now.choices choices.now) }
 {
     order_of(&leaf.choices.items, choices).is_lt()
@@ -86,7 +87,7 @@ fn either(test: bool, one: usize, other: usize) -> usize
 }
 
 /// The place of some choices among leaves that rise: how many of these come before them.
-fn place_of(leaves: &[Box<Leaf>], choices: &[usize]) -> usize
+fn place_of(leaves: &[Box<SearchLeaf>], choices: &[usize]) -> usize
     requires rises { Rises (map in_box leaves.now) }
     ensures { IsPlace choices.now (map in_box leaves.now) result }
 {
@@ -102,14 +103,14 @@ fn place_of(leaves: &[Box<Leaf>], choices: &[usize]) -> usize
 }
 
 /// Whether a leaf has these choices.
-fn has_choices(leaf: &Leaf, choices: &[usize]) -> bool
+fn has_choices(leaf: &SearchLeaf, choices: &[usize]) -> bool
     ensures { result ≡ is_eq (order leaf.now.choices choices.now) }
 {
     order_of(&leaf.choices.items, choices).is_eq()
 }
 
 /// Whether the leaf at this place has these choices.
-fn is_there(leaves: &[Box<Leaf>], place: usize, choices: &[usize]) -> bool
+fn is_there(leaves: &[Box<SearchLeaf>], place: usize, choices: &[usize]) -> bool
     requires { place ≤ length leaves.now }
     ensures { result ≡ begins_with choices.now (drop place (map in_box leaves.now)) }
 {
@@ -119,39 +120,40 @@ fn is_there(leaves: &[Box<Leaf>], place: usize, choices: &[usize]) -> bool
     has_choices(&leaves[place], choices)
 }
 
-/// Adds the text of the witness of a run that ends here so, at a place, if texts are asked for.
+/// Adds the text of the witness of a run that ends here so, at a place, if any are asked for: the
+/// empty one if this one isn't.
 fn add_text(
     alloc: Global,
     debugger: &Debugger<'_>,
-    asked: bool,
+    asked: Witnesses,
     ending: &Ending,
     place: usize,
     texts: &mut Vec<Box<String>>,
 ) -> Result<(), AllocError>
-    requires within { asked ≡ true → place ≤ length texts.old.items }
-    ensures { OnOk result (texts_in texts.new ≡ (if asked then insert (texts_in texts.old) place (behind_number (witness_by (done_steps debugger.now.trail) ending.now)) else texts_in texts.old)) }
+    requires within { are_asked asked ≡ true → place ≤ length texts.old.items }
+    ensures { OnOk result (texts_in texts.new ≡ (if are_asked asked then insert (texts_in texts.old) place (asked_text asked ending.now (behind_number (witness_by (done_steps debugger.now.trail) ending.now))) else texts_in texts.old)) }
 {
-    if !asked {
+    if !asked.are_asked() {
         return Ok(());
     }
-    let text = witness_here(alloc, debugger, ending)?;
+    let text = witness_here(alloc, debugger, asked, ending)?;
     texts.insert(place, Box::new(alloc, text)?)?;
     Ok(())
 }
 
 /// Adds a leaf, at which the debugger stands, to those held, which rise, at its place, and the text
-/// of its witness, if texts are asked for. Nothing is added if a leaf with its choices is there.
+/// of its witness, if any are asked for. Nothing is added if a leaf with its choices is there.
 pub(crate) fn keep_leaf(
     alloc: Global,
     debugger: &Debugger<'_>,
-    asked: bool,
-    leaf: Leaf,
+    asked: Witnesses,
+    leaf: SearchLeaf,
     held: &mut Held,
 ) -> Result<(), AllocError>
     requires rises { Rises (leaves_in held.old.leaves) }
-    requires even { IsEven asked (leaves_in held.old.leaves) (texts_in held.old.texts) }
+    requires even { IsEven (are_asked asked) (leaves_in held.old.leaves) (texts_in held.old.texts) }
     ensures leaves { OnOk result (leaves_in held.new.leaves ≡ with_leaf leaf (leaves_in held.old.leaves)) }
-    ensures texts { OnOk result ((text : leaves.Leaf → List ℕ) → text leaf ≡ behind_number (witness_by (done_steps debugger.now.trail) leaf.ending) → TextsAre asked text (leaves_in held.old.leaves) (texts_in held.old.texts) → TextsAre asked text (leaves_in held.new.leaves) (texts_in held.new.texts)) }
+    ensures texts { OnOk result ((text : leaves.SearchLeaf → List ℕ) → text leaf ≡ asked_text asked leaf.ending (behind_number (witness_by (done_steps debugger.now.trail) leaf.ending)) → TextsAre (are_asked asked) text (leaves_in held.old.leaves) (texts_in held.old.texts) → TextsAre (are_asked asked) text (leaves_in held.new.leaves) (texts_in held.new.texts)) }
 {
     let place = place_of(&held.leaves, &leaf.choices.items);
     if is_there(&held.leaves, place, &leaf.choices.items) {

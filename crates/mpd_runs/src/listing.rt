@@ -4,7 +4,7 @@
 ghost use Rattle.std.specs.Prelude.{◌≡◌, ◌≤◌, ◌<◌, ◌+◌, ◌++◌, true, false, IfOk, OnOk, length, take, drop, string_bytes};
 ghost use Rattle.std.specs.List.{AllByRecursion};
 ghost use Rattle.mpd_model.specs.runs.Trail.{done_steps};
-ghost use Rattle.mpd_core.specs.DebuggerViews.{AsFound, standing_of};
+ghost use Rattle.mpd_trail.specs.DebuggerViews.{AsFound, standing_of};
 ghost use Rattle.mpd_model.specs.texts.Texts.{spaced};
 ghost use Rattle.mpd_explore.specs.Report.{ended_by, left_out};
 ghost use Rattle.mpd_explore.specs.Witness.{HasWitness};
@@ -13,11 +13,13 @@ ghost use Rattle.mpd_runs.specs.Runs as spec;
 
 use crate::counts::{WayCounts, counts_of, is_count};
 use crate::way::{WAYS, Way};
-use mpd_core::Debugger;
-use mpd_explore::{Ending, Leaf, Limits, Report, Unwatched, explore};
+use mpd_explore::{
+    Ending, SearchLeaf, SearchLimits, SearchReport, Unwatched, Witnesses, explore_watched,
+};
 use mpd_model::{RUNS_MAX, STEPS_MAX};
 use mpd_names::{end_name, push_end_places};
 use mpd_outcomes::{Count, push_count};
+use mpd_trail::Debugger;
 use std::alloc::{AllocError, Global};
 
 /// How many steps a run has at most that is tried.
@@ -44,26 +46,30 @@ pub(crate) fn first_runs(
     runs: usize,
     fuel: usize,
     until_bad: bool,
-) -> Result<Report, AllocError>
+) -> Result<SearchReport, AllocError>
     requires clean { length debugger.old.trail.steps ≡ debugger.old.trail.depth }
     requires fits { debugger.old.trail.depth + fuel ≤ STEPS_MAX }
     ensures leaves { IfOk result (λ r. r.leaves.items ≡ ended_by until_bad (spec.first_runs runs fuel debugger.old.world)) }
-    ensures more { IfOk result (λ r. r.more ≡ left_out (record { runs = runs; fuel = fuel; witnesses = false; until_bad = until_bad; ends = true }) (spec.all_runs fuel debugger.old.world)) }
+    ensures more { IfOk result (λ r. r.more ≡ left_out (record { runs = runs; fuel = fuel; witnesses = Witnesses.OfNone; until_bad = until_bad; ends = true }) (spec.all_runs fuel debugger.old.world)) }
     ensures has { IfOk result (λ r. AllByRecursion (HasWitness wide_decision debugger.old.trail.program debugger.old.trail.mode (done_steps debugger.old.trail) fuel debugger.old.world) r.leaves.items) }
     ensures as_found { AsFound (standing_of debugger.old) (standing_of debugger.new) }
 {
-    let limits = Limits {
+    let limits = SearchLimits {
         runs,
         fuel,
-        witnesses: false,
+        witnesses: Witnesses::OfNone,
         until_bad,
         ends: true,
     };
-    explore(alloc, debugger, limits, &mut Unwatched)
+    explore_watched(alloc, debugger, limits, &mut Unwatched)
 }
 
 /// The first runs from the debugger's state, in the order of the walk.
-fn runs_from(alloc: Global, debugger: &Debugger<'_>, runs: usize) -> Result<Report, AllocError>
+fn runs_from(
+    alloc: Global,
+    debugger: &Debugger<'_>,
+    runs: usize,
+) -> Result<SearchReport, AllocError>
     ensures leaves { IfOk result (λ r. r.leaves.items ≡ spec.first_runs runs (spec.fuel_at debugger.now.trail.depth) debugger.now.world) }
     ensures more { IfOk result (λ r. r.more ≡ spec.are_more runs (spec.fuel_at debugger.now.trail.depth) debugger.now.world) }
 {
@@ -163,7 +169,12 @@ fn push_ending(out: &mut String, lines: &[usize], ending: &Ending) -> Result<(),
 }
 
 /// Adds the line of a run, after `place` others.
-fn push_leaf(out: &mut String, lines: &[usize], place: usize, leaf: &Leaf) -> Result<(), AllocError>
+fn push_leaf(
+    out: &mut String,
+    lines: &[usize],
+    place: usize,
+    leaf: &SearchLeaf,
+) -> Result<(), AllocError>
     requires { place < 9223372036854775808 }
     ensures { OnOk result (string_bytes out.new ≡ string_bytes out.old ++ spec.leaf_line lines.now place leaf.now) }
 {
@@ -176,7 +187,7 @@ fn push_leaf(out: &mut String, lines: &[usize], place: usize, leaf: &Leaf) -> Re
 }
 
 /// Adds the lines of runs, numbered from 1.
-fn push_leaves(out: &mut String, lines: &[usize], leaves: &[Leaf]) -> Result<(), AllocError>
+fn push_leaves(out: &mut String, lines: &[usize], leaves: &[SearchLeaf]) -> Result<(), AllocError>
     ensures { OnOk result (string_bytes out.new ≡ string_bytes out.old ++ spec.leaf_lines lines.now 0 leaves.now) }
 {
     let mut place = 0;

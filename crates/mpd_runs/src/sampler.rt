@@ -3,13 +3,14 @@
 ghost use Rattle.std.specs.Prelude.{◌≡◌, ◌+◌, ◌<◌, ◌≤◌, ℕ, true, false, List, [], length, map, take, nat_lt, IfOk, OnOk, OnErr, string_bytes};
 ghost use Rattle.std.specs.List.{AllByRecursion, position};
 ghost use Rattle.mpd_model.specs.runs.Trail.{done_steps, gone_back, forgotten};
-ghost use Rattle.mpd_core.specs.DebuggerViews.{AsFound, standing_of};
+ghost use Rattle.mpd_trail.specs.DebuggerViews.{AsFound, standing_of};
 ghost use Rattle.mpd_policy.specs.Wide.{wide_decision};
 ghost use Rattle.mpd_policy.specs.Walk.{wide_walk};
-ghost use Rattle.mpd_explore.specs.declared.report.Leaf as leaves;
+ghost use Rattle.mpd_explore.specs.declared.report.SearchLeaf as leaves;
 ghost use Rattle.mpd_explore.specs.Report.{shown, is_bad, up_to_bad, ended_by};
 ghost use Rattle.mpd_explore.specs.Witness.{HasWitness};
 ghost use Rattle.mpd_explore.specs.WitnessTexts.{witness_texts};
+ghost use Rattle.mpd_explore.specs.Asked.{are_asked};
 ghost use Rattle.mpd_runs.specs.Order.{Rises};
 ghost use Rattle.mpd_runs.specs.Drawn.{seeded, draws, sampled, is_listed};
 ghost use Rattle.mpd_policy.specs.Walks.{Beyond};
@@ -17,10 +18,12 @@ ghost use Rattle.mpd_runs.specs.Drawing.{IsEven, TextsAre, Adds, Samples, leaves
 
 use crate::draw::draw_leaf;
 use crate::keep::{Held, keep_leaf, report_of};
-use mpd_core::Debugger;
-use mpd_explore::{Leaf, Limits, Report, Unwatched, Watch, explore_with};
+use mpd_explore::{
+    SearchLeaf, SearchLimits, SearchReport, Unwatched, Watch, Witnesses, explore_with,
+};
 use mpd_model::STEPS_MAX;
 use mpd_policy::{Wide, put_back, wide_decisions_can_be_followed};
+use mpd_trail::Debugger;
 use rand::{Rng, SeedableRng};
 use rand_pcg::Pcg64;
 use std::alloc::{AllocError, Global};
@@ -30,13 +33,13 @@ use std::alloc::{AllocError, Global};
 fn draw_into<R: Rng>(
     alloc: Global,
     debugger: &mut Debugger<'_>,
-    limits: Limits,
+    limits: SearchLimits,
     random: &mut R,
     held: &mut Held,
 ) -> Result<bool, AllocError>
     requires fits { debugger.old.trail.depth + limits.fuel ≤ STEPS_MAX }
     requires rises { Rises (leaves_in held.old.leaves) }
-    requires even { IsEven limits.witnesses (leaves_in held.old.leaves) (texts_in held.old.texts) }
+    requires even { IsEven (are_asked limits.witnesses) (leaves_in held.old.leaves) (texts_in held.old.texts) }
     ensures adds { IfOk result (λ last. Adds limits (standing_of debugger.old) (R.stream random.old) (leaves_in held.old.leaves) (texts_in held.old.texts) last (leaves_in held.new.leaves) (texts_in held.new.texts) (R.stream random.new)) }
     ensures beyond { Beyond (standing_of debugger.old) (standing_of debugger.new) }
 {
@@ -51,14 +54,14 @@ fn draw_into<R: Rng>(
 fn add_run<R: Rng>(
     alloc: Global,
     debugger: &mut Debugger<'_>,
-    limits: Limits,
+    limits: SearchLimits,
     random: &mut R,
     held: &mut Held,
 ) -> Result<bool, AllocError>
     requires clean { length debugger.old.trail.steps ≡ debugger.old.trail.depth }
     requires fits { debugger.old.trail.depth + limits.fuel ≤ STEPS_MAX }
     requires rises { Rises (leaves_in held.old.leaves) }
-    requires even { IsEven limits.witnesses (leaves_in held.old.leaves) (texts_in held.old.texts) }
+    requires even { IsEven (are_asked limits.witnesses) (leaves_in held.old.leaves) (texts_in held.old.texts) }
     ensures adds { IfOk result (λ last. Adds limits (standing_of debugger.old) (R.stream random.old) (leaves_in held.old.leaves) (texts_in held.old.texts) last (leaves_in held.new.leaves) (texts_in held.new.texts) (R.stream random.new)) }
     ensures as_found { AsFound (standing_of debugger.old) (standing_of debugger.new) }
 {
@@ -73,7 +76,7 @@ fn add_run<R: Rng>(
 fn gather<R: Rng, W: Watch>(
     alloc: Global,
     debugger: &mut Debugger<'_>,
-    limits: Limits,
+    limits: SearchLimits,
     random: &mut R,
     held: &mut Held,
     watch: &mut W,
@@ -102,9 +105,9 @@ fn collect<W: Watch>(
     alloc: Global,
     debugger: &mut Debugger<'_>,
     seed: u64,
-    limits: Limits,
+    limits: SearchLimits,
     watch: &mut W,
-) -> Result<Report, AllocError>
+) -> Result<SearchReport, AllocError>
     requires clean { length debugger.old.trail.steps ≡ debugger.old.trail.depth }
     requires fits { debugger.old.trail.depth + limits.fuel ≤ STEPS_MAX }
     ensures samples { IfOk result (λ r. Samples limits (done_steps debugger.old.trail) debugger.old.world (seeded seed) r.leaves.items (map string_bytes r.witnesses.items)) }
@@ -123,7 +126,7 @@ fn collect<W: Watch>(
 }
 
 /// Where the first deadlock or trap stands.
-fn place_of_bad(leaves: &[Leaf]) -> Option<usize>
+fn place_of_bad(leaves: &[SearchLeaf]) -> Option<usize>
     ensures { result ≡ position (λ l. is_bad l.ending) leaves.now }
 {
     leaves.iter().position(|leaf| leaf.is_bad())
@@ -131,7 +134,7 @@ fn place_of_bad(leaves: &[Leaf]) -> Option<usize>
 
 /// How many leaves stand up to the first deadlock or trap, and with it; all of them if there is none.
 #[tactic(auto, using(crate::proofs::UntilLemmas::up_to_found, crate::proofs::UntilLemmas::up_to_all))]
-fn count_to_bad(leaves: &[Leaf]) -> usize
+fn count_to_bad(leaves: &[SearchLeaf]) -> usize
     ensures { up_to_bad leaves.now ≡ take result leaves.now }
 {
     match place_of_bad(leaves) {
@@ -141,9 +144,9 @@ fn count_to_bad(leaves: &[Leaf]) -> usize
 }
 
 /// Ends a report after its first deadlock or trap, if that is asked for.
-fn end_at_bad(limits: Limits, report: &mut Report)
+fn end_at_bad(limits: SearchLimits, report: &mut SearchReport)
     ensures leaves { report.new.leaves.items ≡ ended_by limits.until_bad report.old.leaves.items }
-    ensures texts { (text : leaves.Leaf → List ℕ) → TextsAre limits.witnesses text report.old.leaves.items (map string_bytes report.old.witnesses.items) → TextsAre limits.witnesses text report.new.leaves.items (map string_bytes report.new.witnesses.items) }
+    ensures texts { (text : leaves.SearchLeaf → List ℕ) → TextsAre (are_asked limits.witnesses) text report.old.leaves.items (map string_bytes report.old.witnesses.items) → TextsAre (are_asked limits.witnesses) text report.new.leaves.items (map string_bytes report.new.witnesses.items) }
 {
     if !limits.until_bad {
         return;
@@ -157,7 +160,7 @@ fn end_at_bad(limits: Limits, report: &mut Report)
 fn has_more(
     alloc: Global,
     debugger: &mut Debugger<'_>,
-    limits: Limits,
+    limits: SearchLimits,
     count: usize,
 ) -> Result<bool, AllocError>
     requires clean { length debugger.old.trail.steps ≡ debugger.old.trail.depth }
@@ -168,7 +171,7 @@ fn has_more(
 {
     let mut asked = limits;
     asked.runs = count;
-    asked.witnesses = false;
+    asked.witnesses = Witnesses::OfNone;
     asked.until_bad = false;
     asked.ends = false;
     let listed = explore_with(alloc, &Wide, debugger, &[], asked, &mut Unwatched)?;
@@ -185,15 +188,16 @@ fn has_more(
 /// counts from here. The debugger is left as found, also on `Err`, which means that memory was
 /// refused; this happens only if a run is asked for. Requires that no step is undone, and that
 /// depth and fuel together are at most 1,000,000 steps. Each leaf has a run, and each deadlock and
-/// each trap a witness. With `witnesses` their texts are made as the runs are drawn. `watch` is
-/// told of each run that is drawn, with how many there are so far; nothing else depends on it.
+/// each trap a witness; `witnesses` says the texts of which ones are made as the runs are drawn.
+/// `watch` is told of each run that is drawn, with how many there are so far; nothing else depends
+/// on it.
 pub fn sample<W: Watch>(
     alloc: Global,
     debugger: &mut Debugger<'_>,
     seed: u64,
-    limits: Limits,
+    limits: SearchLimits,
     watch: &mut W,
-) -> Result<Report, AllocError>
+) -> Result<SearchReport, AllocError>
     requires clean { length debugger.old.trail.steps ≡ debugger.old.trail.depth }
     requires fits { debugger.old.trail.depth + limits.fuel ≤ STEPS_MAX }
     ensures leaves { IfOk result (λ r. r.leaves.items ≡ ended_by limits.until_bad (map shown (sampled (draws limits.until_bad limits.fuel limits.runs debugger.old.world (seeded seed)) limits.fuel debugger.old.world))) }

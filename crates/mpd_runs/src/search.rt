@@ -6,7 +6,7 @@ ghost use Rattle.std.specs.Prelude.{◌≡◌, ◌≤◌, ◌<◌, ◌+◌, ◌+
 ghost use Rattle.std.specs.List.{AllByRecursion};
 ghost use Rattle.std.specs.Option.{option_map};
 ghost use Rattle.mpd_model.specs.runs.Trail.{done_steps};
-ghost use Rattle.mpd_core.specs.DebuggerViews.{AsFound, standing_of};
+ghost use Rattle.mpd_trail.specs.DebuggerViews.{AsFound, standing_of};
 ghost use Rattle.mpd_explore.specs.Witness.{HasWitness};
 ghost use Rattle.mpd_policy.specs.Wide.{wide_decision};
 ghost use Rattle.mpd_policy.specs.Walk.{run_by, steps_by};
@@ -20,10 +20,10 @@ use crate::counts::{WayCounts, counts_of};
 use crate::listing::{ending_name, first_runs, fuel_at, is_number, push_ending_places};
 use crate::states::{ByStates, STATES_VISITED, by_states};
 use crate::way::{Way, first_in};
-use mpd_core::Debugger;
-use mpd_explore::{Ending, Leaf, Report};
+use mpd_explore::{Ending, SearchLeaf, SearchReport};
 use mpd_model::{IssuedList, Outcome, RUNS_MAX, STEPS_MAX, StepList, TrapList};
 use mpd_policy::{Wide, wide_decisions_can_be_followed};
+use mpd_trail::Debugger;
 use std::alloc::{AllocError, Global};
 
 /// A run from the start of the script: its steps, and how it ends.
@@ -113,7 +113,7 @@ fn steps_of(
     alloc: Global,
     debugger: &mut Debugger<'_>,
     fuel: usize,
-    leaf: &Leaf,
+    leaf: &SearchLeaf,
 ) -> Result<StepList, AllocError>
     requires clean { length debugger.old.trail.steps ≡ debugger.old.trail.depth }
     requires fits { debugger.old.trail.depth + fuel ≤ STEPS_MAX }
@@ -132,7 +132,7 @@ fn whole_run(
     alloc: Global,
     debugger: &mut Debugger<'_>,
     fuel: usize,
-    leaf: &Leaf,
+    leaf: &SearchLeaf,
 ) -> Result<WholeRun, AllocError>
     requires clean { length debugger.old.trail.steps ≡ debugger.old.trail.depth }
     requires fits { debugger.old.trail.depth + fuel ≤ STEPS_MAX }
@@ -152,7 +152,7 @@ fn whole_run(
 // ---- the first that ends in one way
 
 /// Whether runs up to the first deadlock or trap are too few.
-fn falls_short(report: &Report, way: Way) -> bool
+fn falls_short(report: &SearchReport, way: Way) -> bool
     ensures { result ≡ spec.falls_short way report.now.leaves.items }
 {
     report.has_bad() && first_in(way, &report.leaves).is_none()
@@ -161,7 +161,12 @@ fn falls_short(report: &Report, way: Way) -> bool
 /// The runs that are looked at: up to the first deadlock or trap, and if that isn't one that is
 /// looked for, as many as there are.
 #[tactic(auto, using(crate::proofs::LookLemmas::looking))]
-fn look(alloc: Global, copy: &mut Debugger<'_>, fuel: usize, way: Way) -> Result<Report, AllocError>
+fn look(
+    alloc: Global,
+    copy: &mut Debugger<'_>,
+    fuel: usize,
+    way: Way,
+) -> Result<SearchReport, AllocError>
     requires clean { length copy.old.trail.steps ≡ copy.old.trail.depth }
     requires fits { copy.old.trail.depth + fuel ≤ STEPS_MAX }
     ensures looked { IfOk result (λ r. Looked way fuel copy.old.world r.leaves.items r.more) }
@@ -182,7 +187,7 @@ pub(crate) fn found_in(
     alloc: Global,
     copy: &mut Debugger<'_>,
     fuel: usize,
-    leaves: &[Leaf],
+    leaves: &[SearchLeaf],
     way: Way,
 ) -> Result<Option<WholeRun>, AllocError>
     requires clean { length copy.old.trail.steps ≡ copy.old.trail.depth }
@@ -288,7 +293,7 @@ fn run_at_place(
     alloc: Global,
     copy: &mut Debugger<'_>,
     fuel: usize,
-    leaves: &[Leaf],
+    leaves: &[SearchLeaf],
     place: usize,
 ) -> Result<Option<WholeRun>, AllocError>
     requires clean { length copy.old.trail.steps ≡ copy.old.trail.depth }

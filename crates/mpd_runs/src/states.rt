@@ -2,16 +2,17 @@
 
 ghost use Rattle.std.specs.Prelude.{◌≡◌, ◌≤◌, ◌+◌, IfOk, IfSome, length};
 ghost use Rattle.mpd_model.specs.runs.Trail.{done_steps};
-ghost use Rattle.mpd_core.specs.DebuggerViews.{AsFound, standing_of};
+ghost use Rattle.mpd_trail.specs.DebuggerViews.{AsFound, standing_of};
 ghost use Rattle.mpd_runs.specs.Seek as spec;
 ghost use Rattle.mpd_runs.specs.Seek.{LiesAhead, StatesTell};
 
 use crate::counts::{WayCounts, counts_told};
 use crate::search::{WholeRun, found_in};
 use crate::way::Way;
-use mpd_core::Debugger;
+use mpd_explore::Witnesses;
 use mpd_model::STEPS_MAX;
 use mpd_outcomes::{Goal, StateLimits, explore_outcomes};
+use mpd_trail::Debugger;
 use std::alloc::{AllocError, Global};
 
 /// How many states are kept at most.
@@ -60,7 +61,7 @@ pub(crate) fn by_states(
         fuel,
         kept: STATES_KEPT,
         visited: STATES_VISITED,
-        witnesses: false,
+        witnesses: Witnesses::OfNone,
         until: goal_of(way),
     };
     let outcomes = explore_outcomes(alloc, copy, limits)?;

@@ -4,7 +4,7 @@ ghost use Rattle.std.specs.Prelude.{◌≡◌, ◌≤◌, length};
 ghost use Rattle.std.specs.Option.{option_map};
 ghost use Rattle.mpd_runs.specs.Ways as spec;
 
-use mpd_explore::{Ending, Leaf};
+use mpd_explore::{Ending, SearchLeaf};
 use mpd_model::Outcome;
 
 /// How a run ends, in a word.
@@ -69,14 +69,14 @@ fn same_way(one: Way, other: Way) -> bool
 }
 
 /// Whether a run ends in a way.
-pub(crate) fn ends_in(way: Way, leaf: &Leaf) -> bool
+pub(crate) fn ends_in(way: Way, leaf: &SearchLeaf) -> bool
     ensures { result ≡ spec.ends_in way leaf.now }
 {
     same_way(way, way_of(&leaf.ending))
 }
 
 /// How many runs end in a way.
-pub(crate) fn count_in(way: Way, leaves: &[Leaf]) -> usize
+pub(crate) fn count_in(way: Way, leaves: &[SearchLeaf]) -> usize
     ensures value { result ≡ spec.count_in way leaves.now }
     ensures bound { result ≤ length leaves.now }
 {
@@ -90,7 +90,7 @@ pub(crate) fn count_in(way: Way, leaves: &[Leaf]) -> usize
 }
 
 /// The first run that ends in a way.
-pub(crate) fn first_in(way: Way, leaves: &[Leaf]) -> Option<&Leaf>
+pub(crate) fn first_in(way: Way, leaves: &[SearchLeaf]) -> Option<&SearchLeaf>
     ensures { option_map (λ l. l.now) result ≡ spec.first_in way leaves.now }
 {
     for leaf in leaves {

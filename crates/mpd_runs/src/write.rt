@@ -9,10 +9,10 @@ ghost use Rattle.mpd_runs.specs.Written.{words_text, Put, WroteWords};
 use crate::by_choices::steps_by_choices;
 use crate::fault::{WordsFault, WriteFault};
 use mpd_code::Subject;
-use mpd_core::Debugger;
-use mpd_lines::{EngineFault, Sink, write_all};
-use mpd_model::{STEPS_MAX, Step};
+use mpd_lines::{EngineFault, write_all};
+use mpd_model::{STEPS_MAX, Sink, Step};
 use mpd_policy::Schedule;
+use mpd_trail::Debugger;
 use std::alloc::{AllocError, Global};
 
 /// Steps as trace words, a line for each.

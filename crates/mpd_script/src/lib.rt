@@ -13,4 +13,5 @@ mod stmt;
 
 pub use asked::{Asked, read_expression};
 pub use canonical::print;
+pub use mpd_model::{FaultCode, ReadFault};
 pub use script::read;

@@ -1,13 +1,13 @@
 -- Lines that a server writes of itself, one after another.
 use Rattle.std.proofs.Common.{◌≡◌, ℕ, ◌+◌, ◌^◌, ◌<◌, ◌≤◌, List, [], ◌∷◌, ◌++◌, length, length-append, arith, Result, Ok, Err, refl, ap, sym, subst, ◌∙◌, append_assoc}
 use Rattle.mpd_model.specs.texts.Texts.{line}
-use Rattle.mpd_lines.specs.Seen.{SinkSeen}
-use Rattle.mpd_lines.specs.declared.device.DeviceFault.{DeviceFault}
+use Rattle.mpd_model.specs.devices.Seen.{SinkSeen}
+use Rattle.mpd_model.specs.declared.device.DeviceFault.{DeviceFault}
 use Rattle.mpd_lines.specs.Gathering.{Written}
 use Rattle.mpd_lines.proofs.SentLaws.{appends_append}
 use Rattle.mpd_session.specs.declared.history.TheConstants.{HISTORY_MAX}
-use Rattle.mpd_server.specs.declared.fault.ServeFault.{ServeFault}
-use Rattle.mpd_server.specs.declared.fault.ServeFault.TheVariants.{Memory, NoPort, WriteFailed, NotAccepted, Settle}
+use Rattle.mpd_server.specs.declared.fault.HostFault.{HostFault}
+use Rattle.mpd_server.specs.declared.fault.HostFault.TheVariants.{Memory, NoPort, WriteFailed, NotAccepted, Settle}
 use Rattle.mpd_server.specs.Announced.{listening_line, served_line, Wrote, WrotePart, Listens, Listened, Announced, IsOutcome, Ended, Concluded}
 
 -- ---- a text after another
@@ -55,14 +55,14 @@ pub ruleset saying = (ended_more, said_more)
 
 -- ---- both lines
 
-pub announced_first : (s t : SinkSeen) (f : ServeFault) → Listened s t (Err f) → Announced s t (Err f)
+pub announced_first : (s t : SinkSeen) (f : HostFault) → Listened s t (Err f) → Announced s t (Err f)
 announced_first s t WriteFailed h = (h.0, 0, h.1, (omega arith), wrote_part_first (listening_line h.0) (served_line 0) s t h.2)
 announced_first s t (NotAccepted error) h = absurd h
 announced_first s t (Settle fault) h = absurd h
 announced_first s t Memory h = absurd h
 announced_first s t (NoPort error) h = h
 
-announced_end : (s t u : SinkSeen) (entries : ℕ) (r : Result ℕ ServeFault) → Listens s t → entries ≤ HISTORY_MAX → Ended entries t u r → Announced s u r
+announced_end : (s t u : SinkSeen) (entries : ℕ) (r : Result ℕ HostFault) → Listens s t → entries ≤ HISTORY_MAX → Ended entries t u r → Announced s u r
 announced_end s t u entries (Ok told) h few e =
     let P : ℕ → Type 0 = λ n. (n ≤ HISTORY_MAX) × Wrote (listening_line h.0 ++ served_line n) s u in
     let both : P told = subst P (sym e.0) (few, wrote_more (listening_line h.0) (served_line entries) s t u h.2 e.1) in (h.0, h.1, both.0, both.1)
@@ -72,17 +72,17 @@ announced_end s t u entries (Err (Settle fault)) h few e = absurd e
 announced_end s t u entries (Err Memory) h few e = absurd e
 announced_end s t u entries (Err (NoPort error)) h few e = absurd e
 
-announced_fault : (s t : SinkSeen) (f : ServeFault) → Listens s t → IsOutcome (Err f) → Announced s t (Err f)
+announced_fault : (s t : SinkSeen) (f : HostFault) → Listens s t → IsOutcome (Err f) → Announced s t (Err f)
 announced_fault s t WriteFailed h is = absurd is
 announced_fault s t (NotAccepted error) h is = h
 announced_fault s t (Settle fault) h is = h
 announced_fault s t Memory h is = absurd is
 announced_fault s t (NoPort error) h is = absurd is
 
-pub announced_both : (s t u : SinkSeen) (outcome r : Result ℕ ServeFault) → Listened s t (Ok _) → IsOutcome outcome → Concluded outcome t u r → Announced s u r
+pub announced_both : (s t u : SinkSeen) (outcome r : Result ℕ HostFault) → Listened s t (Ok _) → IsOutcome outcome → Concluded outcome t u r → Announced s u r
 announced_both s t u (Ok entries) r h is c = announced_end s t u entries r h is c
 announced_both s t u (Err f) r h is c =
-    let P : Result ℕ ServeFault → Type 0 = λ x. Announced s u x in
+    let P : Result ℕ HostFault → Type 0 = λ x. Announced s u x in
     let Q : SinkSeen → Type 0 = λ v. Listens s v in subst P (sym c.0) (announced_fault s u f (subst Q (sym c.1) h) is)
 
 pub ruleset announcing = (announced_first, announced_both)

@@ -1,3 +1,1 @@
 pub mod AnnouncedLemmas
-pub mod SeatLemmas
-pub mod Crossing

@@ -1,3 +1,1 @@
 pub mod Announced
-pub mod Receipts
-pub mod Settled

@@ -1,14 +1,10 @@
 //! A client: it is accepted, and then served by its seat.
 
-use crate::desk::SeatDesk;
-use crate::opening::Opening;
 use crate::porter::Porter;
-use crate::seat::Seat;
 use crate::server::Arrivals;
-use crate::shared::Shared;
-use mpd_lines::{FromReader, ToWriter};
-use mpd_session::{Log, Logged};
-use mpd_wire::serve;
+use mpd_model::{FromReader, ToWriter};
+use mpd_session::{Log, Logged, Opening, Seat, SeatDesk, Shared};
+use mpd_wire::serve_by;
 use std::alloc::Global;
 use std::io;
 use std::io::{Error, ErrorKind};
@@ -18,20 +14,27 @@ use std::sync::Wait;
 /// What clients share, as the threads see it that serve them.
 pub(crate) trait Table<S, R> {
     /// Answers the requests of a client until it leaves or its connection fails, and gives its seat
-    /// back.
-    fn serve(&self, rt: &R, alloc: Global, seat: S, stream: &TcpStream) -> S;
+    /// back; with `wide` also those that are read with `--wide` alone.
+    fn serve(&self, rt: &R, alloc: Global, wide: bool, seat: S, stream: &TcpStream) -> S;
 
     /// What its seat keeps.
     fn log<'s>(&self, seat: &'s S) -> &'s Log;
 }
 
 impl<L: Opening, R: Wait> Table<Seat<L>, R> for Shared<'_, L> {
-    fn serve(&self, rt: &R, alloc: Global, seat: Seat<L>, stream: &TcpStream) -> Seat<L> {
+    fn serve(
+        &self,
+        rt: &R,
+        alloc: Global,
+        wide: bool,
+        seat: Seat<L>,
+        stream: &TcpStream,
+    ) -> Seat<L> {
         let mut source = FromReader::new(stream);
         let mut sink = ToWriter::new(stream);
         let mut desk = SeatDesk::new(rt, self, seat);
         // what fails here ends this client alone
-        let _ended = serve(alloc, &mut source, &mut sink, &mut desk);
+        let _ended = serve_by(alloc, wide, &mut source, &mut sink, &mut desk);
         desk.into_seat()
     }
 
@@ -44,6 +47,7 @@ impl<L: Opening, R: Wait> Table<Seat<L>, R> for Shared<'_, L> {
 pub(crate) fn serve_client<T: Table<S, R>, S, R: Wait, P: Porter>(
     rt: &R,
     alloc: Global,
+    wide: bool,
     table: &T,
     seat: S,
     stream: TcpStream,
@@ -51,7 +55,7 @@ pub(crate) fn serve_client<T: Table<S, R>, S, R: Wait, P: Porter>(
 ) -> S {
     // if it can't be set, each reply takes longer
     let _slower = stream.set_nodelay(true);
-    let seat = table.serve(rt, alloc, seat, &stream);
+    let seat = table.serve(rt, alloc, wide, seat, &stream);
     let log = table.log(&seat);
     porter.has_left(log.client, log.receipts.len());
     seat

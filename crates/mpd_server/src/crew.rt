@@ -85,11 +85,11 @@ fn start_all<
         mut running,
         left,
     } = places;
-    let porter = arrivals.porter;
+    let Arrivals { wide, porter, .. } = arrivals;
     let mut unserved = 0;
     for seat in seats {
         let stream = welcome(rt, table, &seat, arrivals)?;
-        match scope.spawn(move || serve_client(rt, alloc, table, seat, stream, porter)) {
+        match scope.spawn(move || serve_client(rt, alloc, wide, table, seat, stream, porter)) {
             Ok(client) => running.push_reserved(client),
             Err(_) => unserved += 1,
         }

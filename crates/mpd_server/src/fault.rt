@@ -5,7 +5,7 @@ use std::io::Error;
 
 /// Why clients were not served to the end.
 #[derive(Drop)]
-pub enum ServeFault {
+pub enum HostFault {
     /// Memory for the session, its seats or its lists was refused, before anything was written.
     Memory,
     /// The listener has not told its port. Nothing was written.

@@ -4,23 +4,13 @@
 
 mod client;
 mod crew;
-pub mod desk;
 pub mod fault;
 mod lines;
-pub mod opening;
 pub mod porter;
 pub mod runner;
-pub mod seat;
 pub mod server;
-pub mod settle;
-pub mod shared;
 
-pub use desk::SeatDesk;
-pub use fault::ServeFault;
-pub use opening::Opening;
+pub use fault::HostFault;
 pub use porter::Porter;
-pub use runner::run_script;
-pub use seat::Seat;
+pub use runner::{run, run_by};
 pub use server::{Arrivals, serve};
-pub use settle::SettleFault;
-pub use shared::Shared;

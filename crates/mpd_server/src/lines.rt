@@ -5,9 +5,10 @@ ghost use Rattle.mpd_lines.specs.Gathering.{Written};
 ghost use Rattle.mpd_model.specs.texts.Texts.{line};
 ghost use Rattle.mpd_server.specs.Announced.{Concluded, IsOutcome, Listened};
 
-use crate::fault::ServeFault;
+use crate::fault::HostFault;
 use itoa::Buffer;
-use mpd_lines::{DeviceFault, Sink, write_all};
+use mpd_lines::write_all;
+use mpd_model::{DeviceFault, Sink};
 use std::net::TcpListener;
 
 /// Writes a number, and ends its line. Takes no memory.
@@ -34,31 +35,31 @@ fn say<W: Sink>(sink: &mut W, word: &str, number: usize) -> Result<(), DeviceFau
 }
 
 /// Writes `listening P`, with the port of the listener.
-pub(crate) fn listen<W: Sink>(listener: &TcpListener, sink: &mut W) -> Result<(), ServeFault>
+pub(crate) fn listen<W: Sink>(listener: &TcpListener, sink: &mut W) -> Result<(), HostFault>
     ensures { Listened (W.seen sink.old) (W.seen sink.new) result }
 {
     let port = match listener.local_addr() {
         Ok(address) => address.port(),
-        Err(error) => return Err(ServeFault::NoPort(error)),
+        Err(error) => return Err(HostFault::NoPort(error)),
     };
     match say(sink, "listening ", usize::from(port)) {
         Ok(()) => Ok(()),
-        Err(_) => Err(ServeFault::WriteFailed),
+        Err(_) => Err(HostFault::WriteFailed),
     }
 }
 
 /// Writes `served E` if clients were served to the end, and else passes the fault on.
 pub(crate) fn conclude<W: Sink>(
-    outcome: Result<usize, ServeFault>,
+    outcome: Result<usize, HostFault>,
     sink: &mut W,
-) -> Result<usize, ServeFault>
+) -> Result<usize, HostFault>
     requires { IsOutcome outcome }
     ensures { Concluded outcome (W.seen sink.old) (W.seen sink.new) result }
 {
     match outcome {
         Ok(entries) => match say(sink, "served ", entries) {
             Ok(()) => Ok(entries),
-            Err(_) => Err(ServeFault::WriteFailed),
+            Err(_) => Err(HostFault::WriteFailed),
         },
         Err(fault) => Err(fault),
     }

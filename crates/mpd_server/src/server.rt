@@ -4,22 +4,17 @@ ghost use Rattle.std.specs.Prelude.{◌≡◌, ◌≤◌, IfOk};
 ghost use Rattle.mpd_session.specs.Audit.{receipts_in};
 ghost use Rattle.mpd_session.specs.FaultNumbers.{audit_fault_number};
 ghost use Rattle.mpd_session.specs.Held.{opened};
-ghost use Rattle.mpd_server.specs.Receipts.{seated};
-ghost use Rattle.mpd_server.specs.Settled.{settle_fault_number};
+ghost use Rattle.mpd_session.specs.Receipts.{seated};
+ghost use Rattle.mpd_session.specs.Settled.{settle_fault_number};
 ghost use Rattle.mpd_server.specs.Announced.{Announced, IsOutcome};
 
 use crate::crew::{Left, Places, serve_all};
-use crate::fault::ServeFault;
+use crate::fault::HostFault;
 use crate::lines::{conclude, listen};
-use crate::opening::Opening;
 use crate::porter::Porter;
-use crate::seat::Seat;
-use crate::settle::SettleFault;
-use crate::shared::Shared;
 use mpd_code::Code;
-use mpd_lines::Sink;
-use mpd_model::Mode;
-use mpd_session::{AuditFault, HISTORY_MAX, Session};
+use mpd_model::{Mode, Sink};
+use mpd_session::{AuditFault, HISTORY_MAX, Opening, Seat, Session, SettleFault, Shared};
 use std::alloc::{AllocError, Global};
 use std::marker::Brand;
 use std::net::TcpListener;
@@ -34,6 +29,8 @@ pub struct Arrivals<'l, P> {
     pub listener: &'l TcpListener,
     /// How many are accepted.
     pub clients: usize,
+    /// Whether what is read with `--wide` alone is a request of theirs, too.
+    pub wide: bool,
     /// Who is told that they come and leave.
     pub porter: &'l P,
 }
@@ -89,17 +86,17 @@ fn attend<L: Opening + Send + Sync, R: Threads + Wait + Sync, P: Porter>(
     shared: Shared<'_, L>,
     places: Places<Seat<L>>,
     arrivals: Arrivals<'_, P>,
-) -> Result<usize, ServeFault>
+) -> Result<usize, HostFault>
     ensures { IsOutcome result }
 {
     match serve_all(rt, alloc, &shared, places, arrivals) {
         Ok(Left { seats, .. }) => match entries_settled(shared, seats) {
             Ok(entries) => Ok(entries),
-            Err(fault) => Err(ServeFault::Settle(fault)),
+            Err(fault) => Err(HostFault::Settle(fault)),
         },
         Err(error) => {
             drop(shared);
-            Err(ServeFault::NotAccepted(error))
+            Err(HostFault::NotAccepted(error))
         }
     }
 }
@@ -114,7 +111,7 @@ fn host_places<L: Opening + Send + Sync, R: Threads + Wait + Sync, P: Porter, W:
     places: Places<Seat<L>>,
     arrivals: Arrivals<'_, P>,
     sink: &mut W,
-) -> Result<usize, ServeFault>
+) -> Result<usize, HostFault>
     ensures { Announced (W.seen sink.old) (W.seen sink.new) result }
 {
     match listen(arrivals.listener, sink) {
@@ -135,7 +132,7 @@ fn host<L: Opening + Send + Sync, R: Threads + Wait + Sync, P: Porter, W: Sink>(
     session: Session<'_>,
     arrivals: Arrivals<'_, P>,
     sink: &mut W,
-) -> Result<usize, ServeFault>
+) -> Result<usize, HostFault>
     requires name { blank.name ≡ L.name }
     requires blank { blank.parts ≡ L.parts }
     requires parts { L.parts ≡ arrivals.clients }
@@ -144,7 +141,7 @@ fn host<L: Opening + Send + Sync, R: Threads + Wait + Sync, P: Porter, W: Sink>(
 {
     match places_of::<L>(alloc, blank, session, arrivals.clients) {
         Ok((shared, places)) => host_places(rt, alloc, shared, places, arrivals, sink),
-        Err(_) => Err(ServeFault::Memory),
+        Err(_) => Err(HostFault::Memory),
     }
 }
 
@@ -163,11 +160,11 @@ pub fn serve<R: Threads + Wait + Sync, P: Porter, W: Sink>(
     mode: Mode,
     arrivals: Arrivals<'_, P>,
     sink: &mut W,
-) -> Result<usize, ServeFault>
+) -> Result<usize, HostFault>
     ensures { Announced (W.seen sink.old) (W.seen sink.new) result }
 {
     let Ok(session) = Session::start(alloc, code, mode) else {
-        return Err(ServeFault::Memory);
+        return Err(HostFault::Memory);
     };
     let blank = Blank::new(arrivals.clients as u64);
     host::<Brand, R, P, W>(rt, alloc, blank, session, arrivals, sink)

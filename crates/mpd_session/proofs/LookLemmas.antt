@@ -6,7 +6,7 @@ use Rattle.std.specs.List.{flat_map, range_with_len}
 use Rattle.mpd_model.specs.steps.World.{RankWorld, World}
 use Rattle.mpd_model.specs.runs.Breakpoints.{cell_at, held_at}
 use Rattle.mpd_model.specs.runs.Trail.{Trail}
-use Rattle.mpd_explore.specs.declared.report.Leaf.{Leaf}
+use Rattle.mpd_explore.specs.declared.report.SearchLeaf.{SearchLeaf}
 use Rattle.mpd_policy.specs.Walk.{walk}
 use Rattle.mpd_explore.specs.Report.{shown}
 use Rattle.mpd_explore.specs.ReportText.{leaf_text}
@@ -71,7 +71,7 @@ few_runs t w runs fuel e = rw e refl
 pub bad_fuel : (t : Trail) (w : World) (runs fuel left : ℕ) → is_within 1 65536 runs ≡ true → left ≡ 1000000 - t.depth → is_within 1 left fuel ≡ false → Refused BadNumber ≡ explore_effect t w runs fuel
 bad_fuel t w runs fuel left e is f = let g : is_within 1 (1000000 - t.depth) fuel ≡ false = ap (λ n. is_within 1 n fuel) (sym is) ∙ f in rw (e, g) refl
 
-pub explored : (t : Trail) (w : World) (runs fuel left : ℕ) (texts : List (List ℕ)) (leaves : List Leaf) (more : Bool) → is_within 1 65536 runs ≡ true → left ≡ 1000000 - t.depth → is_within 1 left fuel ≡ true
+pub explored : (t : Trail) (w : World) (runs fuel left : ℕ) (texts : List (List ℕ)) (leaves : List SearchLeaf) (more : Bool) → is_within 1 65536 runs ≡ true → left ≡ 1000000 - t.depth → is_within 1 left fuel ≡ true
     → texts ≡ map leaf_text leaves → leaves ≡ take runs (map shown (walk fuel w)) → more ≡ nat_lt runs (length (map shown (walk fuel w))) → Told (answer.Explored texts more) ≡ explore_effect t w runs fuel
 explored t w runs fuel left texts leaves more e is f told listed some =
     let g : is_within 1 (1000000 - t.depth) fuel ≡ true = ap (λ n. is_within 1 n fuel) (sym is) ∙ f in

@@ -21,7 +21,7 @@ use Rattle.mpd_model.specs.runs.Running.{Ran, ran, stop_of, all_applied, ran_bac
 use Rattle.mpd_model.specs.texts.Texts.{id_text, step_text, rank_text, set_text, call_text, outcome_text, meant_text, compared_text}
 use Rattle.mpd_policy.specs.Last.{last_hit}
 use Rattle.mpd_policy.specs.Single.{ran_on}
-use Rattle.mpd_explore.specs.declared.report.Leaf.{Leaf as RunLeaf}
+use Rattle.mpd_explore.specs.declared.report.SearchLeaf.{SearchLeaf as RunLeaf}
 use Rattle.mpd_policy.specs.Walk.{walk}
 use Rattle.mpd_explore.specs.Report.{shown}
 use Rattle.mpd_explore.specs.ReportText.{leaf_text}

@@ -8,3 +8,5 @@ pub mod Copies
 pub mod RefusalNumbers
 pub mod Holdings
 pub mod Looks
+pub mod Receipts
+pub mod Settled

@@ -5,15 +5,16 @@ ghost use Rattle.std.specs.Fmt.{decimal};
 ghost use Rattle.mpd_session.specs.Effects as spec;
 ghost use Rattle.mpd_session.specs.Effects.{break_effect, unbreak_effect, breaks_effect, hit_effect, break_text, line_text, match_text, place_texts};
 ghost use Rattle.mpd_model.specs.runs.Breakpoints.{cell_at, break_at};
-ghost use Rattle.mpd_core.specs.DebuggerViews.{standing_of};
+ghost use Rattle.mpd_trail.specs.DebuggerViews.{standing_of};
 
 use crate::effect::{Effect, is_within};
 use crate::limits::LINES_MAX;
 use crate::looks::push_text;
 use crate::reply::{Answer, Refusal, TextList};
-use mpd_core::{Core, Debugger};
+use mpd_core::Core;
 use mpd_model::{BREAKS_MAX, Break, Condition, push_compared, push_meant};
 use mpd_policy::{Breaks, last_hit};
+use mpd_trail::Debugger;
 use std::alloc::{AllocError, Global};
 
 /// Whether a rank has a cell.

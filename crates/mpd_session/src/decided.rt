@@ -12,10 +12,11 @@ use crate::copy::push_copy;
 use crate::effect::{Effect, is_within};
 use crate::looks::{push_text, step_texts};
 use crate::reply::{Answer, Coming, Refusal, Text, TextList};
-use mpd_core::{Core, Debugger};
+use mpd_core::Core;
 use mpd_explain::{push_all_lost, push_candidate, push_told};
 use mpd_model::{Decision, Outcome, STEPS_MAX, Step, print_outcome};
 use mpd_policy::{Ending, decide};
+use mpd_trail::Debugger;
 use std::alloc::{AllocError, Global};
 
 /// The first of some steps, `count` at most.

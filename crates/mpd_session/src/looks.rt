@@ -6,7 +6,7 @@ ghost use Rattle.mpd_model.specs.steps.Next.{enabled};
 ghost use Rattle.mpd_model.specs.steps.Outcomes.{outcome};
 ghost use Rattle.mpd_model.specs.texts.Texts.{step_text, rank_text, set_text, call_text, outcome_text};
 ghost use Rattle.mpd_model.specs.runs.Trail.{IsReached};
-ghost use Rattle.mpd_core.specs.DebuggerViews.{standing_of};
+ghost use Rattle.mpd_trail.specs.DebuggerViews.{standing_of};
 ghost use Rattle.mpd_explore.specs.ReportText.{leaf_text};
 ghost use Rattle.mpd_session.specs.Looks.{look_effect};
 ghost use Rattle.mpd_session.specs.Effects.{enabled_effect, state_effect, vars_effect, calls_effect, why_effect, partner_text, leaves_effect, explore_effect};
@@ -17,9 +17,10 @@ use crate::request::Look;
 use crate::runs::report;
 use crate::steps::is_below;
 use crate::{decided, places, script};
-use mpd_core::{Core, Debugger};
-use mpd_explore::{Leaf, push_leaf_text};
+use mpd_core::Core;
+use mpd_explore::{SearchLeaf, push_leaf_text};
 use mpd_model::{CallId, MatchSet, RUNS_MAX, STEPS_MAX, Step, print_outcome, print_step};
+use mpd_trail::Debugger;
 use std::alloc::{AllocError, Global};
 
 /// Adds a text. `Err` means that memory was refused.
@@ -205,7 +206,7 @@ pub fn why(alloc: Global, core: &Core<'_>, call: CallId) -> Result<Effect, Alloc
 }
 
 /// The text of a leaf.
-fn leaf_text(alloc: Global, leaf: &Leaf) -> Result<String, AllocError>
+fn leaf_text(alloc: Global, leaf: &SearchLeaf) -> Result<String, AllocError>
     ensures { IfOk result (λ t. string_bytes t ≡ leaf_text leaf.now) }
 {
     let mut text = String::new(alloc);
@@ -214,7 +215,7 @@ fn leaf_text(alloc: Global, leaf: &Leaf) -> Result<String, AllocError>
 }
 
 /// The texts of leaves.
-fn leaf_texts(alloc: Global, leaves: &[Leaf]) -> Result<TextList, AllocError>
+fn leaf_texts(alloc: Global, leaves: &[SearchLeaf]) -> Result<TextList, AllocError>
     ensures { IfOk result (λ texts. texts ≡ map leaf_text leaves.now) }
 {
     let mut items = Vec::new(alloc);

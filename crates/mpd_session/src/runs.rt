@@ -2,17 +2,17 @@
 
 ghost use Rattle.std.specs.Prelude.{◌≡◌, ◌+◌, ◌≤◌, IfOk, OnOk, OnErr, length, map, take, nat_lt};
 ghost use Rattle.mpd_model.specs.runs.Trail.{IsReached};
-ghost use Rattle.mpd_core.specs.DebuggerViews.{standing_of};
+ghost use Rattle.mpd_trail.specs.DebuggerViews.{standing_of};
 ghost use Rattle.mpd_policy.specs.Walk.{walk};
 ghost use Rattle.mpd_explore.specs.Report.{shown};
 ghost use Rattle.mpd_session.specs.Effects.{run_effect, run_on_effect, run_back_effect};
 
 use crate::effect::{Effect, is_within};
 use crate::reply::{Answer, Refusal};
-use mpd_core::Debugger;
-use mpd_explore::{Limits, Report, Unwatched, explore};
+use mpd_explore::{SearchLimits, SearchReport, Unwatched, Witnesses, explore_watched};
 use mpd_model::STEPS_MAX;
 use mpd_policy::{Breaks, runs as policy};
+use mpd_trail::Debugger;
 use std::alloc::{AllocError, Global};
 
 /// Runs along decisions. `Err` means that memory was refused; then nothing has changed.
@@ -81,23 +81,23 @@ pub fn report(
     debugger: &mut Debugger<'_>,
     runs: usize,
     fuel: usize,
-) -> Result<Report, AllocError>
+) -> Result<SearchReport, AllocError>
     requires { debugger.old.trail.depth + fuel ≤ STEPS_MAX }
     ensures leaves { IfOk result (λ r. r.leaves.items ≡ take runs (map shown (walk fuel debugger.old.world))) }
     ensures more { IfOk result (λ r. r.more ≡ nat_lt runs (length (map shown (walk fuel debugger.old.world)))) }
     ensures trail { debugger.new.trail ≡ debugger.old.trail }
 {
     debugger.state_is_reached();
-    let limits = Limits {
+    let limits = SearchLimits {
         runs,
         fuel,
-        witnesses: false,
+        witnesses: Witnesses::OfNone,
         until_bad: false,
         ends: false,
     };
     if debugger.steps().len() == debugger.depth() {
-        return explore(alloc, debugger, limits, &mut Unwatched);
+        return explore_watched(alloc, debugger, limits, &mut Unwatched);
     }
     let mut copy = debugger.copy()?;
-    explore(alloc, &mut copy, limits, &mut Unwatched)
+    explore_watched(alloc, &mut copy, limits, &mut Unwatched)
 }

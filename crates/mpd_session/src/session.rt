@@ -2,7 +2,7 @@
 
 ghost use Rattle.std.specs.Prelude.{◌≡◌, ◌<◌, ℕ, IfOk, OnOk, OnErr, true, take};
 ghost use Rattle.mpd_model.specs.runs.Trail.{IsReached, IsRun, done_steps};
-ghost use Rattle.mpd_core.specs.DebuggerViews.{standing_of};
+ghost use Rattle.mpd_trail.specs.DebuggerViews.{standing_of};
 ghost use Rattle.mpd_policy.specs.Last as last;
 ghost use Rattle.mpd_session.specs.Held.{opened};
 ghost use Rattle.mpd_session.specs.Respond.{carried, respond, reply_to, version_then, raised, is_current, may_want, laid};
@@ -14,9 +14,9 @@ use crate::reply::{Refusal, Reply};
 use crate::request::{Command, Request};
 use crate::{breaks, looks, runs, steps};
 use mpd_code::Code;
-use mpd_core::Debugger;
 use mpd_model::{Mode, Step};
 use mpd_policy::{Breaks, last_hit};
+use mpd_trail::Debugger;
 use std::alloc::{AllocError, Global};
 use std::marker::Model;
 
@@ -101,7 +101,8 @@ fn carry_out(
 #[derive(Drop)]
 pub struct Session<'c> {
     debugger: Debugger<'c>,
-    breaks: Breaks,
+    /// In a box, since their 64 places take 4,600 bytes, and a session is handed on by value.
+    breaks: Box<Breaks>,
     version: u64,
 }
 
@@ -121,9 +122,11 @@ impl<'c> Session<'c> {
     pub fn start(alloc: Global, code: &'c Code, mode: Mode) -> Result<Session<'c>, AllocError>
         ensures { IfOk result (λ s. s ≡ opened code.now.program mode) }
     {
+        let breaks = Box::new(alloc, Breaks::new())?;
+        let debugger = Debugger::start(alloc, code, mode)?;
         Ok(Session {
-            debugger: Debugger::start(alloc, code, mode)?,
-            breaks: Breaks::new(),
+            debugger,
+            breaks,
             version: 0,
         })
     }

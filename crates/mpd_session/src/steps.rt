@@ -4,15 +4,15 @@ ghost use Rattle.std.specs.Prelude.{◌≡◌, ◌+◌, ◌-◌, ◌<◌, ◌≤
 ghost use Rattle.mpd_model.specs.steps.Next.{next};
 ghost use Rattle.mpd_model.specs.runs.Trail.{IsReached, applied, gone_back};
 ghost use Rattle.mpd_model.specs.runs.Decisions.{decision};
-ghost use Rattle.mpd_core.specs.DebuggerViews.{standing_of};
+ghost use Rattle.mpd_trail.specs.DebuggerViews.{standing_of};
 ghost use Rattle.mpd_session.specs.declared.reply.Answer.{Answer};
 ghost use Rattle.mpd_session.specs.Effects.{step_effect, taken_effect, picked_effect, next_effect, back_effect, redo_effect, goto_effect};
 
 use crate::effect::{Effect, is_within};
 use crate::reply::{Answer, Refusal};
-use mpd_core::{ApplyFault, Debugger};
 use mpd_model::{Decision, STEPS_MAX, Step};
 use mpd_policy::decide;
+use mpd_trail::{ApplyFault, Debugger};
 use std::alloc::{AllocError, Global};
 
 /// Whether a number is below another.

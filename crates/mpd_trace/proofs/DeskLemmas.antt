@@ -10,9 +10,9 @@ use Rattle.mpd_model.specs.runs.Trail.{Trail, Standing, IsReached, applied, take
 use Rattle.mpd_model.specs.texts.Words.{has_word, trace_word_of}
 use Rattle.mpd_model.specs.texts.Texts.{line, steps_text, show_text}
 use Rattle.mpd_model.specs.texts.Answers.{AnswerOrMemory, is_too_long, max_depth, ok_text, refused_bad_word, refused_memory, refused_full, refused_at_start, refused_no_redo, refused_not_before, refused_not_enabled, step_answer, back_answer, redo_answer, goto_answer}
-use Rattle.mpd_core.specs.Run.{Carried}
-use Rattle.mpd_core.specs.declared.run.TrailCommand.TheVariants.{Apply, Undo, Redo, UndoTo}
-use Rattle.mpd_core.specs.declared.run.Reply.TheVariants.{Done, NotEnabled, Full, AtStart, NoRedo, NotBefore, Memory}
+use Rattle.mpd_trail.specs.Run.{Carried}
+use Rattle.mpd_trail.specs.declared.run.TrailCommand.TheVariants.{Apply, Undo, Redo, UndoTo}
+use Rattle.mpd_trail.specs.declared.run.Reply.TheVariants.{Done, NotEnabled, Full, AtStart, NoRedo, NotBefore, Memory}
 use Rattle.mpd_trace.specs.Replies.{TraceWordAnswer, TraceWordMemory, Replies}
 
 -- ---- steps

@@ -1,7 +1,7 @@
 -- Lines that are shown before their answers.
 use Rattle.std.proofs.Common.{◌≡◌, ◌∙◌, List, ℕ, [], codes, true, Result, subst}
 use Rattle.mpd_lines.specs.Echo.{Echoes}
-use Rattle.mpd_lines.specs.Seen.{SourceSeen, SinkSeen}
+use Rattle.mpd_model.specs.devices.Seen.{SourceSeen, SinkSeen}
 use Rattle.mpd_lines.specs.Served.{Served}
 use Rattle.mpd_lines.specs.Telling.{waiting_below}
 use Rattle.mpd_lines.specs.declared.engine.EngineFault.{EngineFault}

@@ -1,6 +1,6 @@
 -- A text that was read from a file: what a refusal of it says.
 use Rattle.std.proofs.Common.{◌≡◌, ◌≢◌, ℕ, ◌+◌, ◌<◌, true, false, if◌then◌else◌, inl, inr, List, [], ◌++◌, length, Result, Ok, Err, refl, ap, sym, subst, ◌∙◌, append-nil, arith, length-append}
-use Rattle.mpd_lines.specs.Seen.{SourceSeen}
+use Rattle.mpd_model.specs.devices.Seen.{SourceSeen}
 use Rattle.mpd_model.specs.declared.limits.TheConstants.{SCRIPT_MAX}
 use Rattle.mpd_model.specs.grammar.Grammar.{reading}
 use Rattle.mpd_model.specs.script.Program.{Program}

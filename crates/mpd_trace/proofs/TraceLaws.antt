@@ -1,6 +1,6 @@
 -- A run of a desk that stands at the start of a script.
 use Rattle.std.proofs.Common.{◌≡◌, ℕ, true, List, Result, subst}
-use Rattle.mpd_lines.specs.Seen.{SourceSeen, SinkSeen}
+use Rattle.mpd_model.specs.devices.Seen.{SourceSeen, SinkSeen}
 use Rattle.mpd_model.specs.texts.Answers.{AnswerOrMemory}
 use Rattle.mpd_model.specs.runs.Trail.{Standing}
 use Rattle.mpd_lines.specs.Served.{Served}

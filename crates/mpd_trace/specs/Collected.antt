@@ -1,7 +1,7 @@
 -- What was read of an input up to the line that divides it.
 use Rattle.std.specs.Prelude.{◌≡◌, ℕ, ◌+◌, ◌<◌, ◌≤◌, List, [], ◌++◌, length, Result, Ok, Err, ⊤}
 use Rattle.std.specs.Io.KnownBytes.{Consumes, IsAtEnd}
-use Rattle.mpd_lines.specs.Seen.{SourceSeen}
+use Rattle.mpd_model.specs.devices.Seen.{SourceSeen}
 use Rattle.mpd_model.specs.declared.limits.TheConstants.{READS_MAX, SCRIPT_MAX}
 use Rattle.mpd_model.specs.texts.Lines.{divided}
 use Rattle.mpd_lines.specs.declared.engine.TheConstants.{READ_MAX}

@@ -1,6 +1,6 @@
 -- The script of a file, and its code.
 use Rattle.std.specs.Prelude.{◌≡◌, ◌≢◌, ℕ, ◌+◌, ◌⊎◌, List, [], ◌++◌, Ok, Err}
-use Rattle.mpd_lines.specs.Seen.{SourceSeen}
+use Rattle.mpd_model.specs.devices.Seen.{SourceSeen}
 use Rattle.mpd_model.specs.declared.limits.TheConstants.{SCRIPT_MAX}
 use Rattle.mpd_model.specs.grammar.Grammar.{reading}
 use Rattle.mpd_model.specs.script.Program.{Program}

@@ -1,7 +1,7 @@
 -- What comes of an input that has a script and the lines of its trace.
 use Rattle.std.specs.Prelude.{◌≡◌, ◌≢◌, ℕ, ◌+◌, ◌≤◌, ◌==◌, ◌⊎◌, List, ◌++◌, true, length, take, count_by, Result, Ok, Err, []}
 use Rattle.std.specs.Io.KnownBytes.{Consumes, IsAtEnd}
-use Rattle.mpd_lines.specs.Seen.{SourceSeen, SinkSeen}
+use Rattle.mpd_model.specs.devices.Seen.{SourceSeen, SinkSeen}
 use Rattle.mpd_model.specs.declared.limits.TheConstants.{READS_MAX}
 use Rattle.mpd_model.specs.texts.Answers.{AnswerOrMemory}
 use Rattle.mpd_model.specs.grammar.Grammar.{reading}

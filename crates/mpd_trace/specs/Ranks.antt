@@ -3,7 +3,7 @@ use Rattle.std.specs.Prelude.{◌≡◌, ◌≤◌, IfSome, ℕ, suc, ◌+◌, B
 use Rattle.std.specs.Char.{is_ascii_digit}
 use Rattle.std.specs.Fmt.{decimal}
 use Rattle.std.specs.List.{prefix_len}
-use Rattle.mpd_lines.specs.Seen.{SourceSeen}
+use Rattle.mpd_model.specs.devices.Seen.{SourceSeen}
 use Rattle.mpd_model.specs.declared.limits.TheConstants.{RANKS_MAX}
 use Rattle.mpd_model.specs.grammar.Grammar.{reading}
 use Rattle.mpd_model.specs.script.Program.{Program}

@@ -4,15 +4,15 @@ ghost use Rattle.std.specs.Prelude.{◌≡◌, ℕ, ◌+◌, ◌<◌, ◌≤◌,
 ghost use Rattle.mpd_model.specs.runs.Trail.{first_standing};
 ghost use Rattle.mpd_model.specs.texts.Answers.{AnswerOrMemory, ok_text, refused_text};
 ghost use Rattle.mpd_trace.specs.Replies.{Replies};
-ghost use Rattle.mpd_core.specs.DebuggerViews.{standing_of};
+ghost use Rattle.mpd_trail.specs.DebuggerViews.{standing_of};
 
 use crate::enabled_list::listed;
 use crate::state_text::show;
 use itoa::Buffer;
 use mpd_code::Code;
-use mpd_core::{ApplyFault, AtStart, Debugger, NotBefore, RedoFault, Reply, TrailCommand, answer};
 use mpd_lines::{LineDesk, ROOM, push_all, push_echo, push_long_echo};
 use mpd_model::{LINE_MAX, Mode, Step, TraceWord, has_word, trace_word_of};
+use mpd_trail::{ApplyFault, AtStart, Debugger, NotBefore, RedoFault, Reply, TrailCommand, answer};
 use std::alloc::{AllocError, Global};
 use std::marker::Model;
 
@@ -205,7 +205,7 @@ pub struct TraceDesk<'c> {
 
 impl<'c> Model for TraceDesk<'c> {
     ghost use Rattle.mpd_model.specs.runs.Trail.{Standing, standing_code};
-    ghost use Rattle.mpd_core.specs.DebuggerViews.{standing_of};
+    ghost use Rattle.mpd_trail.specs.DebuggerViews.{standing_of};
 
     ghost Value = { Standing };
 

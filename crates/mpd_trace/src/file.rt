@@ -4,8 +4,8 @@ ghost use Rattle.mpd_trace.specs.FileText.{IsScriptOf, IsNoCode};
 
 use crate::plain_trace::{PlainFault, refusal};
 use mpd_code::{Code, lower};
-use mpd_lines::{EngineFault, Source, read_up_to};
-use mpd_model::{SCRIPT_MAX, Script};
+use mpd_lines::{EngineFault, read_up_to};
+use mpd_model::{SCRIPT_MAX, Script, Source};
 use mpd_script::read;
 use std::alloc::Global;
 

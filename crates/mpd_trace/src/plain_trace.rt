@@ -12,8 +12,8 @@ ghost use Rattle.mpd_trace.specs.PlainFaults.{fault_line, fault_status, refused_
 use crate::divider::{Divider, Division};
 use crate::tracer::trace_behind;
 use mpd_code::{Subject, lower};
-use mpd_lines::{EngineFault, READ_MAX, Sink, Source};
-use mpd_model::{FaultCode, Mode, READS_MAX, ReadFault, Script};
+use mpd_lines::{EngineFault, READ_MAX};
+use mpd_model::{FaultCode, Mode, READS_MAX, ReadFault, Script, Sink, Source};
 use mpd_script::read;
 use std::alloc::Global;
 use std::fmt;

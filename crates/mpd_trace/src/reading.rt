@@ -11,8 +11,8 @@ use crate::plain_trace::PlainFault;
 use crate::script::with_ranks;
 use crate::text::text_with_ranks;
 use mpd_code::{Code, lower};
-use mpd_lines::{EngineFault, Source};
-use mpd_model::{FaultCode, ReadFault, Script};
+use mpd_lines::EngineFault;
+use mpd_model::{FaultCode, ReadFault, Script, Source};
 use mpd_script::read;
 use std::alloc::Global;
 

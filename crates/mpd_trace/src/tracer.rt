@@ -9,9 +9,9 @@ ghost use Rattle.mpd_lines.specs.Served.{Served, Counted};
 ghost use Rattle.mpd_lines.specs.Telling.{waiting_below};
 
 use crate::desk::{EchoDesk, TraceDesk};
-use mpd_code::Subject;
-use mpd_lines::{EngineFault, Sink, Source, run, run_behind};
-use mpd_model::READS_MAX;
+use mpd_code::{Code, Subject};
+use mpd_lines::{EngineFault, run, run_behind};
+use mpd_model::{Mode, READS_MAX, Sink, Source};
 use std::alloc::Global;
 
 /// Answers the trace words of a source (docs/FORMATS.md, "Trace words") from the start of a script, and writes exactly
@@ -20,13 +20,15 @@ use std::alloc::Global;
 /// 1,000,000 reads none of which was the end, and `Memory` only before anything was read or written.
 pub fn trace<S: Source, W: Sink>(
     alloc: Global,
-    subject: Subject<'_>,
+    code: &Code,
+    mode: Mode,
     source: &mut S,
     sink: &mut W,
 ) -> Result<(), EngineFault>
-    ensures served { (e : Standing) × Served AnswerOrMemory (waiting_below true) (first_standing subject.entry.code.now.program subject.entry.mode) [] READS_MAX (S.seen source.old) (S.seen source.new) (W.seen sink.old) (W.seen sink.new) e result }
+    ensures served { (e : Standing) × Served AnswerOrMemory (waiting_below true) (first_standing code.now.program mode) [] READS_MAX (S.seen source.old) (S.seen source.new) (W.seen sink.old) (W.seen sink.new) e result }
     ensures counted { Counted READS_MAX (failed_reads result) (failed_writes result) (S.seen source.old) (S.seen source.new) (W.seen sink.old) (W.seen sink.new) }
 {
+    let subject = Subject { code, mode };
     trace_behind(alloc, subject, source, sink, &[], READS_MAX)
 }
 

@@ -7,8 +7,8 @@ ghost use Rattle.mpd_lines.specs.Telling.{waiting_below};
 ghost use Rattle.mpd_view.specs.Says.{ViewSays};
 
 use crate::desk::ViewDesk;
-use mpd_lines::{EngineFault, Sink, Source, run};
-use mpd_model::READS_MAX;
+use mpd_lines::{EngineFault, run};
+use mpd_model::{READS_MAX, Sink, Source};
 use std::alloc::Global;
 
 /// Answers the lines of a source by a view (docs/CONSOLE.md, "A view"), however they were cut into reads; the screen after each is

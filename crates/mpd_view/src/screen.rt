@@ -9,9 +9,9 @@ use crate::lines::{behind_lines, line_count, push_cut_lines};
 use crate::panes::push_panes;
 use crate::rows::{first_line, push_cut, push_times};
 use itoa::Buffer;
-use mpd_core::Debugger;
 use mpd_explain::push_standing;
 use mpd_policy::decide;
+use mpd_trail::Debugger;
 use std::alloc::{AllocError, Global};
 
 /// What clears a terminal, and begins in its upper left corner.

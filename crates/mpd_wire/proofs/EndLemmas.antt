@@ -4,6 +4,7 @@ use Rattle.std.proofs.lemmas.Bool.Decides.{nat_tests}
 use Rattle.mpd_session.specs.declared.request.Request.{Request}
 use Rattle.mpd_session.specs.declared.reply.Reply.{Reply}
 use Rattle.mpd_wire.specs.declared.engine.End.{End}
+use Rattle.mpd_wire.specs.Requests.{request_by}
 use Rattle.mpd_wire.specs.Says.{Says, answered, one_more, counted}
 use Rattle.mpd_wire.specs.Ended.{Ended}
 use Rattle.mpd_lines.specs.Telling.{SaysInTurn, Tells, BreaksOff}
@@ -11,7 +12,7 @@ use Rattle.mpd_lines.specs.Served.{Served}
 use Rattle.mpd_lines.specs.declared.engine.EngineFault.{EngineFault}
 use Rattle.mpd_lines.specs.declared.engine.EngineFault.TheVariants as engine
 use Rattle.mpd_model.specs.texts.Lines.{lines_of, ended_lines, raw_lines, grow, bare}
-use Rattle.mpd_lines.specs.Seen.{SourceSeen, SinkSeen}
+use Rattle.mpd_model.specs.devices.Seen.{SourceSeen, SinkSeen}
 
 -- ---- how many lines there are
 
@@ -60,29 +61,35 @@ all_counted n z none few = let lines = few_lines z in exact n (lines_of z) (omeg
 
 -- ---- all lines of an input
 
-module _ {D X N : Type 0} (asks : D → Request → Reply → D → Type 0) (full : D → Type 0) (desk : X → D) (lines : X → ℕ) (name : X → N) where
+module _ {D X N : Type 0} (asks : D → Request → Reply → D → Type 0) (full : D → Type 0) (desk : X → D) (wide : X → Bool) (lines : X → ℕ) (name : X → N) where
   abbrev pub JsonSays : X → List ℕ → List ℕ → X → Type 0
-  JsonSays x line text y = Says asks full (desk x) line text (desk y) × (name y ≡ name x) × (lines y ≡ counted (lines x) line)
+  JsonSays x line text y = Says (request_by (wide x)) asks full (desk x) line text (desk y) × (wide y ≡ wide x) × (name y ≡ name x) × (lines y ≡ counted (lines x) line)
+
+  -- what is said of all lines, by what those read that answer
+  abbrev Turns : Bool → X → List (List ℕ) → List ℕ → X → Type 0
+  Turns b x ls text y = SaysInTurn (Says (request_by b) asks full) (desk x) ls text (desk y)
 
   abbrev InTurn : X → List (List ℕ) → List ℕ → X → Type 0
-  InTurn x ls text y = SaysInTurn (Says asks full) (desk x) ls text (desk y) × (name y ≡ name x) × (lines y ≡ counts (lines x) ls)
+  InTurn x ls text y = Turns (wide x) x ls text y × (wide y ≡ wide x) × (name y ≡ name x) × (lines y ≡ counts (lines x) ls)
 
   in_turn : (x y : X) (ls : List (List ℕ)) (text : List ℕ) → SaysInTurn JsonSays x ls text y → InTurn x ls text y
-  in_turn x y [] text (none, same) = ((none, ap desk same), ap name same, ap lines same)
+  in_turn x y [] text (none, same) = ((none, ap desk same), ap wide same, ap name same, ap lines same)
   in_turn x y (l ∷ ls) text (m, first, others, is, said, rest) =
       let more : InTurn m ls others y = in_turn m y ls others rest in
-      ((desk m, first, others, is, said.0, more.0), more.1 ∙ said.1, more.2 ∙ ap (λ n. counts n ls) said.2)
+      let as_first : Turns (wide x) m ls others y = subst (λ b. Turns b m ls others y) said.1 more.0 in
+      ((desk m, first, others, is, said.0, as_first), more.1 ∙ said.1, more.2 ∙ said.2, more.3 ∙ ap (λ n. counts n ls) said.3)
 
-  told : (x y : X) (ls : List (List ℕ)) (v w : SinkSeen) → Tells JsonSays x ls v.contents w.contents y → Tells (Says asks full) (desk x) ls v.contents w.contents (desk y)
+  told : (x y : X) (ls : List (List ℕ)) (v w : SinkSeen) → Tells JsonSays x ls v.contents w.contents y → Tells (Says (request_by (wide x)) asks full) (desk x) ls v.contents w.contents (desk y)
   told x y ls v w (text, appends, said) = (text, appends, (in_turn x y ls text said).0)
 
   told_name : (x y : X) (ls : List (List ℕ)) (v w : SinkSeen) → Tells JsonSays x ls v.contents w.contents y → name y ≡ name x
-  told_name x y ls v w (text, appends, said) = (in_turn x y ls text said).1
+  told_name x y ls v w (text, appends, said) = (in_turn x y ls text said).2
 
   told_count : (x y : X) (ls : List (List ℕ)) (v w : SinkSeen) → Tells JsonSays x ls v.contents w.contents y → lines y ≡ counts (lines x) ls
-  told_count x y ls v w (text, appends, said) = (in_turn x y ls text said).2
+  told_count x y ls v w (text, appends, said) = (in_turn x y ls text said).3
 
-  broken : (x y : X) (ls : List (List ℕ)) (v w : SinkSeen) → BreaksOff JsonSays 1 x ls v.contents [] w.contents y → BreaksOff (Says asks full) 1 (desk x) ls v.contents [] w.contents (desk y)
+  broken : (x y : X) (ls : List (List ℕ)) (v w : SinkSeen) → BreaksOff JsonSays 1 x ls v.contents [] w.contents y
+      → BreaksOff (Says (request_by (wide x)) asks full) 1 (desk x) ls v.contents [] w.contents (desk y)
   broken x y ls v w b = record {
     earlier = b.earlier;
     last = b.last;
@@ -93,7 +100,7 @@ module _ {D X N : Type 0} (asks : D → Request → Reply → D → Type 0) (ful
     said = b.said;
     answer = b.answer;
     told = (in_turn x b.between b.earlier b.said b.told).0;
-    answered = (in_turn b.between y b.last b.answer b.answered).0;
+    answered = subst (λ r. Turns r b.between b.last b.answer y) (in_turn x b.between b.earlier b.said b.told).1 (in_turn b.between y b.last b.answer b.answered).0;
     written = b.written;
     unwritten = b.unwritten;
     whole = b.whole;
@@ -103,12 +110,12 @@ module _ {D X N : Type 0} (asks : D → Request → Reply → D → Type 0) (ful
   }
 
   broken_name : (x y : X) (ls : List (List ℕ)) (v w : SinkSeen) → BreaksOff JsonSays 1 x ls v.contents [] w.contents y → name y ≡ name x
-  broken_name x y ls v w b = (in_turn b.between y b.last b.answer b.answered).1 ∙ (in_turn x b.between b.earlier b.said b.told).1
+  broken_name x y ls v w b = (in_turn b.between y b.last b.answer b.answered).2 ∙ (in_turn x b.between b.earlier b.said b.told).2
 
   abbrev JsonServed : X → SourceSeen → SourceSeen → SinkSeen → SinkSeen → X → Result (Unit {0}) EngineFault → Type 0
   JsonServed x s t v w y r = Served JsonSays 1 x [] 1000000 s t v w y r
 
-  pub ended_ok : (x y : X) (s t : SourceSeen) (v w : SinkSeen) (end : End) (u : Unit {0}) → lines x ≡ 0 → end.lines ≡ lines y → JsonServed x s t v w y (Ok u) → Ended asks full (desk x) s t v w (desk y) (Ok end)
+  pub ended_ok : (x y : X) (s t : SourceSeen) (v w : SinkSeen) (end : End) (u : Unit {0}) → lines x ≡ 0 → end.lines ≡ lines y → JsonServed x s t v w y (Ok u) → Ended (request_by (wide x)) asks full (desk x) s t v w (desk y) (Ok end)
   ended_ok x y s t v w end u none is (read, consumed, at_end, ends, tells, few) =
       (read, consumed, at_end, ends, told x y (lines_of read) v w tells, few, is ∙ told_count x y (lines_of read) v w tells ∙ all_counted (lines x) read none few)
 
@@ -116,16 +123,16 @@ module _ {D X N : Type 0} (asks : D → Request → Reply → D → Type 0) (ful
   name_ok x y s t v w u (read, consumed, at_end, ends, tells, few) = told_name x y (lines_of read) v w tells
 
   -- A desk that is lent is known behind the loan where the same one was kept.
-  known_told : (x y : X) (e : D) (ls : List (List ℕ)) (v w : SinkSeen) → (name x ≡ name y → e ≡ desk y) → Tells JsonSays x ls v.contents w.contents y → Tells (Says asks full) (desk x) ls v.contents w.contents e
+  known_told : (x y : X) (e : D) (ls : List (List ℕ)) (v w : SinkSeen) → (name x ≡ name y → e ≡ desk y) → Tells JsonSays x ls v.contents w.contents y → Tells (Says (request_by (wide x)) asks full) (desk x) ls v.contents w.contents e
   known_told x y e ls v w same tells =
-      subst (λ d. Tells (Says asks full) (desk x) ls v.contents w.contents d) (sym (same (sym (told_name x y ls v w tells)))) (told x y ls v w tells)
+      subst (λ d. Tells (Says (request_by (wide x)) asks full) (desk x) ls v.contents w.contents d) (sym (same (sym (told_name x y ls v w tells)))) (told x y ls v w tells)
 
   known_broken : (x y : X) (e : D) (ls : List (List ℕ)) (v w : SinkSeen) → (name x ≡ name y → e ≡ desk y) → BreaksOff JsonSays 1 x ls v.contents [] w.contents y
-      → BreaksOff (Says asks full) 1 (desk x) ls v.contents [] w.contents e
+      → BreaksOff (Says (request_by (wide x)) asks full) 1 (desk x) ls v.contents [] w.contents e
   known_broken x y e ls v w same b =
-      subst (λ d. BreaksOff (Says asks full) 1 (desk x) ls v.contents [] w.contents d) (sym (same (sym (broken_name x y ls v w b)))) (broken x y ls v w b)
+      subst (λ d. BreaksOff (Says (request_by (wide x)) asks full) 1 (desk x) ls v.contents [] w.contents d) (sym (same (sym (broken_name x y ls v w b)))) (broken x y ls v w b)
 
-  pub ended_err : (x y : X) (s t : SourceSeen) (v w : SinkSeen) (f : EngineFault) (e : D) → (name x ≡ name y → e ≡ desk y) → JsonServed x s t v w y (Err f) → Ended asks full (desk x) s t v w e (Err f)
+  pub ended_err : (x y : X) (s t : SourceSeen) (v w : SinkSeen) (f : EngineFault) (e : D) → (name x ≡ name y → e ≡ desk y) → JsonServed x s t v w y (Err f) → Ended (request_by (wide x)) asks full (desk x) s t v w e (Err f)
   ended_err x y s t v w engine.ReadFailed e same (read, consumed, ends, tells, few) = (read, consumed, ends, known_told x y e (ended_lines read) v w same tells, few)
   ended_err x y s t v w engine.WriteFailed e same (read, consumed, inl part, few) = (read, consumed, inl (known_broken x y e (ended_lines read) v w same part), few)
   ended_err x y s t v w engine.WriteFailed e same (read, consumed, inr (at_end, part), few) = (read, consumed, inr (at_end, known_broken x y e (lines_of read) v w same part), few)

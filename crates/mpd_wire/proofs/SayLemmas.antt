@@ -1,11 +1,11 @@
 -- What a line is answered.
-use Rattle.std.proofs.Common.{◌≡◌, ◌≢◌, ℕ, ◌<◌, ◌≤◌, List, [], ◌∷◌, ◌++◌, length, codes, refl, ap, sym, ◌∙◌, arith, subst, inl, inr, append-nil, Result, Ok, Err}
+use Rattle.std.proofs.Common.{◌≡◌, ◌≢◌, ℕ, Bool, ◌<◌, ◌≤◌, List, [], ◌∷◌, ◌++◌, length, codes, refl, ap, sym, ◌∙◌, arith, subst, inl, inr, append-nil, Result, Ok, Err}
 use Rattle.serde_json.proofs.OnLiterals.{serde_json_on_literals}
 use Rattle.mpd_session.specs.declared.request.Request.{Request}
 use Rattle.mpd_wire.specs.declared.fault.WireFault.{WireFault}
 use Rattle.mpd_wire.specs.declared.fault.WireFault.TheVariants.{LineTooLong, NotJson, BadField, UnknownCommand, Memory}
 use Rattle.mpd_session.specs.declared.reply.Reply.{Reply}
-use Rattle.mpd_wire.specs.Requests.{request_in}
+use Rattle.mpd_wire.specs.Requests.{request_by}
 use Rattle.mpd_wire.specs.Replies.{reply_line}
 use Rattle.mpd_wire.specs.Says.{memory_line, unprinted_line, full_line, fault_line, Asked, Took, Says, AddsTold, AddsAsked, AddsTook, one_more, counted}
 use Rattle.mpd_wire.proofs.Json.{too_long}
@@ -74,42 +74,43 @@ module _ {D : Type 0} (asks : D → Request → Reply → D → Type 0) (full : 
   took_fault (Ok p) f d e before after is same said = absurd cc
   took_fault (Err g) f d e before after is same said = let h : f ≡ g = cc in (fault_line f, said, (same, inl (ap fault_line h)))
 
-  pub parsed : (z : List ℕ) (q : Request) (r : Result Request WireFault) (d e : D) (before after : List ℕ) → (r ≢ Err Memory → r ≡ request_in z) → r ≡ Ok q → AddsAsked asks full d q before after e
-      → AddsTook asks full d (request_in z) before after e
-  parsed z q r d e before after exact is h = took_request (request_in z) q d e before after (sym (exact (λ m. let k : Ok q ≡ (let x : Result Request WireFault = Err Memory in x) = sym is ∙ m in cc)) ∙ is) h
+  pub parsed : (wide : Bool) (z : List ℕ) (q : Request) (r : Result Request WireFault) (d e : D) (before after : List ℕ) → (r ≢ Err Memory → r ≡ request_by wide z) → r ≡ Ok q → AddsAsked asks full d q before after e
+      → AddsTook asks full d (request_by wide z) before after e
+  parsed wide z q r d e before after exact is h = took_request (request_by wide z) q d e before after (sym (exact (λ m. let k : Ok q ≡ (let x : Result Request WireFault = Err Memory in x) = sym is ∙ m in cc)) ∙ is) h
 
-  pub refused : (z : List ℕ) (f : WireFault) (r : Result Request WireFault) (d e : D) (before after : List ℕ) → (r ≢ Err Memory → r ≡ request_in z) → r ≡ Err f → e ≡ d → after ≡ before ++ fault_line f
-      → AddsTook asks full d (request_in z) before after e
-  refused z LineTooLong r d e before after exact is same said = took_fault (request_in z) LineTooLong d e before after (sym (exact (λ m. let k : Err LineTooLong ≡ (let x : Result Request WireFault = Err Memory in x) = sym is ∙ m in cc)) ∙ is) same said
-  refused z NotJson r d e before after exact is same said = took_fault (request_in z) NotJson d e before after (sym (exact (λ m. let k : Err NotJson ≡ (let x : Result Request WireFault = Err Memory in x) = sym is ∙ m in cc)) ∙ is) same said
-  refused z BadField r d e before after exact is same said = took_fault (request_in z) BadField d e before after (sym (exact (λ m. let k : Err BadField ≡ (let x : Result Request WireFault = Err Memory in x) = sym is ∙ m in cc)) ∙ is) same said
-  refused z UnknownCommand r d e before after exact is same said = took_fault (request_in z) UnknownCommand d e before after (sym (exact (λ m. let k : Err UnknownCommand ≡ (let x : Result Request WireFault = Err Memory in x) = sym is ∙ m in cc)) ∙ is) same said
-  refused z Memory r d e before after exact is same said = took_memory (request_in z) d e before after same (said ∙ ap (λ t. before ++ t) (sym no_memory_line))
+  pub refused : (wide : Bool) (z : List ℕ) (f : WireFault) (r : Result Request WireFault) (d e : D) (before after : List ℕ) → (r ≢ Err Memory → r ≡ request_by wide z) → r ≡ Err f → e ≡ d → after ≡ before ++ fault_line f
+      → AddsTook asks full d (request_by wide z) before after e
+  refused wide z LineTooLong r d e before after exact is same said = took_fault (request_by wide z) LineTooLong d e before after (sym (exact (λ m. let k : Err LineTooLong ≡ (let x : Result Request WireFault = Err Memory in x) = sym is ∙ m in cc)) ∙ is) same said
+  refused wide z NotJson r d e before after exact is same said = took_fault (request_by wide z) NotJson d e before after (sym (exact (λ m. let k : Err NotJson ≡ (let x : Result Request WireFault = Err Memory in x) = sym is ∙ m in cc)) ∙ is) same said
+  refused wide z BadField r d e before after exact is same said = took_fault (request_by wide z) BadField d e before after (sym (exact (λ m. let k : Err BadField ≡ (let x : Result Request WireFault = Err Memory in x) = sym is ∙ m in cc)) ∙ is) same said
+  refused wide z UnknownCommand r d e before after exact is same said = took_fault (request_by wide z) UnknownCommand d e before after (sym (exact (λ m. let k : Err UnknownCommand ≡ (let x : Result Request WireFault = Err Memory in x) = sym is ∙ m in cc)) ∙ is) same said
+  refused wide z Memory r d e before after exact is same said = took_memory (request_by wide z) d e before after same (said ∙ ap (λ t. before ++ t) (sym no_memory_line))
 
   -- ---- a line, with what stays and the count
 
-  abbrev Answered : {N : Type 0} → D → N → ℕ → List ℕ → List ℕ → D → N → ℕ → Type 0
-  Answered d a m line text e b n = Says asks full d line text e × (b ≡ a) × (n ≡ counted m line)
+  abbrev Answered : {N : Type 0} → Bool → D → N → ℕ → List ℕ → List ℕ → Bool → D → N → ℕ → Type 0
+  Answered v d a m line text w e b n = Says (request_by v) asks full d line text e × (w ≡ v) × (b ≡ a) × (n ≡ counted m line)
 
-  abbrev AddsAnswered : {N : Type 0} → D → N → ℕ → List ℕ → List ℕ → List ℕ → D → N → ℕ → Type 0
-  AddsAnswered d a m line before after e b n = (text : List ℕ) × (after ≡ before ++ text) × Answered d a m line text e b n
+  abbrev AddsAnswered : {N : Type 0} → Bool → D → N → ℕ → List ℕ → List ℕ → List ℕ → Bool → D → N → ℕ → Type 0
+  AddsAnswered v d a m line before after w e b n = (text : List ℕ) × (after ≡ before ++ text) × Answered v d a m line text w e b n
 
-  pub skipped : {N : Type 0} (d e : D) (a b : N) (m n : ℕ) (line before after : List ℕ) → line ≡ [] → e ≡ d → b ≡ a → n ≡ m → after ≡ before → AddsAnswered d a m line before after e b n
-  skipped d e a b m n [] before after is same name count said = ([], said ∙ sym (append-nil before), ((refl, same), name, count))
-  skipped d e a b m n (c ∷ l) before after is same name count said = absurd cc
+  pub skipped : {N : Type 0} (v w : Bool) (d e : D) (a b : N) (m n : ℕ) (line before after : List ℕ) → line ≡ [] → e ≡ d → w ≡ v → b ≡ a → n ≡ m → after ≡ before → AddsAnswered v d a m line before after w e b n
+  skipped v w d e a b m n [] before after is same wide name count said = ([], said ∙ sym (append-nil before), ((refl, same), wide, name, count))
+  skipped v w d e a b m n (c ∷ l) before after is same wide name count said = absurd cc
 
-  pub answered_line : {N : Type 0} (d e : D) (a b : N) (m n : ℕ) (line before after : List ℕ) → line ≢ [] → length line ≤ 4096 → b ≡ a → n ≡ one_more m → AddsTook asks full d (request_in line) before after e
-      → AddsAnswered d a m line before after e b n
-  answered_line d e a b m n [] before after some short name count h = absurd (some refl)
-  answered_line d e a b m n (c ∷ l) before after some short name count (text, said, took) = (text, said, ((took, λ long. absurd (omega (arith, short, long))), name, count))
+  pub answered_line : {N : Type 0} (v w : Bool) (d e : D) (a b : N) (m n : ℕ) (line before after : List ℕ) → line ≢ [] → length line ≤ 4096 → w ≡ v → b ≡ a → n ≡ one_more m → AddsTook asks full d (request_by v line) before after e
+      → AddsAnswered v d a m line before after w e b n
+  answered_line v w d e a b m n [] before after some short wide name count h = absurd (some refl)
+  answered_line v w d e a b m n (c ∷ l) before after some short wide name count (text, said, took) = (text, said, ((took, λ long. absurd (omega (arith, short, long))), wide, name, count))
 
-  long_one : {N : Type 0} (d e : D) (a b : N) (m n : ℕ) (line : List ℕ) → 4096 < length line → e ≡ d → b ≡ a → n ≡ one_more m → Answered d a m line (fault_line LineTooLong) e b n
-  long_one d e a b m n [] long same name count = absurd (omega (arith, long))
-  long_one d e a b m n (c ∷ l) long same name count = ((subst (λ r. Took asks full d r (fault_line LineTooLong) e) (sym (too_long (c ∷ l) long)) (same, inl refl), λ _. refl), name, count)
+  long_one : {N : Type 0} (v w : Bool) (d e : D) (a b : N) (m n : ℕ) (line : List ℕ) → 4096 < length line → e ≡ d → w ≡ v → b ≡ a → n ≡ one_more m → Answered v d a m line (fault_line LineTooLong) w e b n
+  long_one v w d e a b m n [] long same wide name count = absurd (omega (arith, long))
+  long_one v w d e a b m n (c ∷ l) long same wide name count =
+      ((subst (λ r. Took asks full d r (fault_line LineTooLong) e) (sym (too_long v (c ∷ l) long)) (same, inl refl), λ _. refl), wide, name, count)
 
-  pub long_answered : {N : Type 0} (d e : D) (a b : N) (m n : ℕ) (before after : List ℕ) → e ≡ d → b ≡ a → n ≡ one_more m → after ≡ before ++ fault_line LineTooLong
-      → (text : List ℕ) × (after ≡ before ++ text) × ((line : List ℕ) → 4096 < length line → Answered d a m line text e b n)
-  long_answered d e a b m n before after same name count said = (fault_line LineTooLong, said, λ line long. long_one d e a b m n line long same name count)
+  pub long_answered : {N : Type 0} (v w : Bool) (d e : D) (a b : N) (m n : ℕ) (before after : List ℕ) → e ≡ d → w ≡ v → b ≡ a → n ≡ one_more m → after ≡ before ++ fault_line LineTooLong
+      → (text : List ℕ) × (after ≡ before ++ text) × ((line : List ℕ) → 4096 < length line → Answered v d a m line text w e b n)
+  long_answered v w d e a b m n before after same wide name count said = (fault_line LineTooLong, said, λ line long. long_one v w d e a b m n line long same wide name count)
 
 pub ruleset asking = (replied, history_full, no_memory)
 

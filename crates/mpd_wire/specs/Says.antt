@@ -8,7 +8,6 @@ use Rattle.mpd_session.specs.declared.request.Request.{Request}
 use Rattle.mpd_wire.specs.declared.fault.WireFault.{WireFault}
 use Rattle.mpd_wire.specs.declared.fault.WireFault.TheVariants as fault
 use Rattle.mpd_session.specs.declared.reply.Reply.{Reply}
-use Rattle.mpd_wire.specs.Requests.{request_in}
 use Rattle.mpd_wire.specs.Replies.{members, refused, reply_line}
 
 -- the two lines that stand in the place of a reply: where memory is refused before the desk has taken the request, and after that
@@ -50,10 +49,10 @@ abbrev pub Took : {D : Type 0} → (D → Request → Reply → D → Type 0) �
 Took asks full d (Ok q) text e = Asked asks full d q text e ⊎ ((e ≡ d) × (text ≡ memory_line))
 Took asks full d (Err f) text e = (e ≡ d) × ((text ≡ fault_line f) ⊎ (text ≡ memory_line))
 
--- an empty line is passed over; one that is too long is never answered as memory
-abbrev pub Says : {D : Type 0} → (D → Request → Reply → D → Type 0) → (D → Type 0) → D → List ℕ → List ℕ → D → Type 0
-Says asks full d [] text e = (text ≡ []) × (e ≡ d)
-Says asks full d (b ∷ l) text e = Took asks full d (request_in (b ∷ l)) text e × (LINE_MAX < length (b ∷ l) → text ≡ fault_line fault.LineTooLong)
+-- Which request a line is, `is` says. An empty line is passed over; one that is too long is never answered as memory.
+abbrev pub Says : {D : Type 0} → (List ℕ → Result Request WireFault) → (D → Request → Reply → D → Type 0) → (D → Type 0) → D → List ℕ → List ℕ → D → Type 0
+Says is asks full d [] text e = (text ≡ []) × (e ≡ d)
+Says is asks full d (b ∷ l) text e = Took asks full d (is (b ∷ l)) text e × (LINE_MAX < length (b ∷ l) → text ≡ fault_line fault.LineTooLong)
 
 -- ---- the same, of what is added to a text
 

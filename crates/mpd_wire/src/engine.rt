@@ -1,7 +1,7 @@
 //! Lines of JSON (docs/SESSIONS.md, "The engine"): each is read as a request, a desk is asked it, and the reply is written.
 
 ghost use Rattle.std.specs.Prelude.{◌≡◌, ◌+◌, ◌≤◌, ◌<◌, ◌++◌, ℕ, List, IfOk, length, string_bytes, vec_len, vec_capacity};
-ghost use Rattle.mpd_wire.specs.Requests.{request_in};
+ghost use Rattle.mpd_wire.specs.Requests.{request_by, request_in};
 ghost use Rattle.mpd_wire.specs.Replies.{reply_line};
 ghost use Rattle.mpd_wire.specs.Says.{AddsTold, AddsAsked, AddsTook, one_more, fault_line};
 ghost use Rattle.mpd_lines.specs.FaultWords.{failed_reads, failed_writes};
@@ -9,10 +9,10 @@ ghost use Rattle.mpd_lines.specs.Served.{Counted};
 ghost use Rattle.mpd_wire.specs.Ended.{Ended};
 
 use crate::fault::WireFault;
-use crate::parser::parse;
+use crate::parser::parse_by;
 use crate::printer::print;
-use mpd_lines::{EngineFault, LineDesk, ROOM, Sink, Source, push_all, run};
-use mpd_model::{LINE_MAX, READS_MAX};
+use mpd_lines::{EngineFault, LineDesk, ROOM, push_all, run};
+use mpd_model::{LINE_MAX, READS_MAX, Sink, Source};
 use mpd_session::{Desk, DeskFault, Reply, Request};
 use std::alloc::{AllocError, Global};
 
@@ -81,13 +81,13 @@ fn ask<D: Desk>(alloc: Global, desk: &mut D, request: &Request, out: &mut Vec<u8
 
 /// Adds the answer to a line that isn't empty.
 #[tactic(auto, using(crate::proofs::SayLemmas::taking))]
-fn take<D: Desk>(alloc: Global, desk: &mut D, line: &[u8], out: &mut Vec<u8>)
+fn take<D: Desk>(alloc: Global, wide: bool, desk: &mut D, line: &[u8], out: &mut Vec<u8>)
     requires line { length line.now ≤ LINE_MAX }
     requires room { vec_len out.old + ROOM ≤ vec_capacity out.old }
-    ensures took { AddsTook D.asks D.is_full desk.old (request_in line.now) out.old.items out.new.items desk.new }
+    ensures took { AddsTook D.asks D.is_full desk.old (request_by wide line.now) out.old.items out.new.items desk.new }
     ensures capacity { vec_capacity out.old ≤ vec_capacity out.new }
 {
-    match parse(alloc, line) {
+    match parse_by(alloc, wide, line) {
         Ok(request) => ask(alloc, desk, &request, out),
         Err(fault) => push_all(out, fault_line(fault)),
     }
@@ -107,17 +107,20 @@ fn one_more(lines: u64) -> u64
 #[derive(Drop)]
 pub struct JsonDesk<'d, D: Desk> {
     desk: &'d mut D,
+    /// Whether it reads what is read with `--wide` alone, too.
+    wide: bool,
     lines: u64,
 }
 
 impl<'d, D: Desk> LineDesk for JsonDesk<'d, D> {
     ghost use Rattle.std.specs.Prelude.{false};
+    ghost use Rattle.mpd_wire.specs.Requests.{request_by};
     ghost use Rattle.mpd_wire.specs.Says.{Says, counted};
 
     // others may see what the desk has done, so the reply to each request is written before the next is asked
     ghost gathers = { false };
 
-    ghost says = { λ d line text e. Says D.asks D.is_full d.desk.now line text e.desk.now × (e.desk.ghost_name ≡ d.desk.ghost_name) × (e.lines ≡ counted d.lines line) };
+    ghost says = { λ d line text e. Says (request_by d.wide) D.asks D.is_full d.desk.now line text e.desk.now × (e.wide ≡ d.wide) × (e.desk.ghost_name ≡ d.desk.ghost_name) × (e.lines ≡ counted d.lines line) };
 
     fn is_gathering(&self) -> bool {
         false
@@ -129,7 +132,7 @@ impl<'d, D: Desk> LineDesk for JsonDesk<'d, D> {
             return;
         }
         self.lines = one_more(self.lines);
-        take(*out.allocator(), &mut *self.desk, line, out)
+        take(*out.allocator(), self.wide, &mut *self.desk, line, out)
     }
 
     #[tactic(auto, using(crate::proofs::SayLemmas::refusing))]
@@ -149,17 +152,36 @@ pub struct End {
 /// Answers the lines of a source, however they are cut into reads, in 1,000,000 reads at most. The reply to each request is written
 /// before the next is asked, and all replies to what a read brought before the next read. `Ok` comes only where the input has ended,
 /// `ReadFailed` (45) and `WriteFailed` (46) only where that device failed in this call, `TooManyTurns` (47) only after 1,000,000
-/// reads none of which was the end, and `Memory` only before anything was read or written.
+/// reads none of which was the end, and `Memory` only before anything was read or written. What is read with `--wide` alone is no
+/// request here.
 pub fn serve<S: Source, W: Sink, D: Desk>(
     alloc: Global,
     source: &mut S,
     sink: &mut W,
     desk: &mut D,
 ) -> Result<End, EngineFault>
-    ensures served { Ended D.asks D.is_full desk.old (S.seen source.old) (S.seen source.new) (W.seen sink.old) (W.seen sink.new) desk.new result }
+    ensures served { Ended request_in D.asks D.is_full desk.old (S.seen source.old) (S.seen source.new) (W.seen sink.old) (W.seen sink.new) desk.new result }
     ensures counted { Counted READS_MAX (failed_reads result) (failed_writes result) (S.seen source.old) (S.seen source.new) (W.seen sink.old) (W.seen sink.new) }
 {
-    let mut lines = JsonDesk { desk, lines: 0 };
+    serve_by(alloc, false, source, sink, desk)
+}
+
+/// The same; with `wide` what is read with `--wide` alone is a request, too.
+pub fn serve_by<S: Source, W: Sink, D: Desk>(
+    alloc: Global,
+    wide: bool,
+    source: &mut S,
+    sink: &mut W,
+    desk: &mut D,
+) -> Result<End, EngineFault>
+    ensures served { Ended (request_by wide) D.asks D.is_full desk.old (S.seen source.old) (S.seen source.new) (W.seen sink.old) (W.seen sink.new) desk.new result }
+    ensures counted { Counted READS_MAX (failed_reads result) (failed_writes result) (S.seen source.old) (S.seen source.new) (W.seen sink.old) (W.seen sink.new) }
+{
+    let mut lines = JsonDesk {
+        desk,
+        wide,
+        lines: 0,
+    };
     match run(alloc, source, sink, &mut lines) {
         Ok(()) => Ok(End { lines: lines.lines }),
         Err(fault) => Err(fault),

@@ -9,7 +9,9 @@ pub mod parser;
 pub mod printer;
 pub(crate) mod shape;
 
-pub use engine::{End, JsonDesk, serve};
+pub use engine::{End, JsonDesk, serve, serve_by};
 pub use fault::WireFault;
-pub use parser::parse;
+pub use mpd_lines::EngineFault as ServeFault;
+pub use mpd_session::{Desk, DeskFault, Reply, Request};
+pub use parser::{parse, parse_by};
 pub use printer::print;

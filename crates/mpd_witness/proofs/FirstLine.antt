@@ -21,7 +21,7 @@ use Rattle.mpd_policy.specs.declared.ending.Ending.TheVariants.{Ended, Cut}
 use Rattle.mpd_explore.specs.declared.report.RankTrap.{RankTrap}
 use Rattle.mpd_explore.specs.declared.report.WitnessEnd.{WitnessEnd}
 use Rattle.mpd_explore.specs.declared.report.WitnessEnd.TheVariants as end_is
-use Rattle.mpd_explore.specs.declared.report.Witness.{Witness}
+use Rattle.mpd_explore.specs.declared.report.EndWitness.{EndWitness}
 use Rattle.mpd_explore.specs.Witness.{rank_trap, end_of}
 use Rattle.mpd_explore.specs.ReportText.{choices_text, ending_text}
 use Rattle.mpd_witness.specs.WitnessText.{parts_at, put_first, each_read, trap_of, rank_trap_with, rank_trap_of, pairs_read, behind_word, some_of, end_with, end_read, steps_of, line_of, with_steps, with_end, witness_in, witness_of}
@@ -289,7 +289,7 @@ lines_read a b end steps p q e h =
     ap (λ x. with_end (end_read x) (b ∷ [] ∷ [])) p ∙ ap (λ x. with_end x (b ∷ [] ∷ [])) e
     ∙ ap (λ x. with_steps end (steps_of x) true) q ∙ ap (λ (x : Option (List Step)). with_steps end x true) h
 
-pub written_is_read : (n m : ℕ) (cs : List ℕ) (e : Ending) (x : Witness) → Fits n → Fits m → AllByRecursion Fits cs → end_of e ≡ Some x.end → IsShort x → witness_of (line (first_text n cs e) ++ line (second_text m x.steps)) ≡ Ok x
+pub written_is_read : (n m : ℕ) (cs : List ℕ) (e : Ending) (x : EndWitness) → Fits n → Fits m → AllByRecursion Fits cs → end_of e ≡ Some x.end → IsShort x → witness_of (line (first_text n cs e) ++ line (second_text m x.steps)) ≡ Ok x
 written_is_read n m cs e x f g k is h =
     let a : List ℕ = first_text n cs e in
     let b : List ℕ = second_text m x.steps in

@@ -4,7 +4,7 @@ use Rattle.std.specs.Prelude.{bytes_eq, codes, filter}
 use Rattle.mpd_model.specs.declared.step.Step.{Step}
 use Rattle.mpd_model.specs.texts.Words.{number_of}
 use Rattle.mpd_explore.specs.declared.report.WitnessEnd.{WitnessEnd}
-use Rattle.mpd_explore.specs.declared.report.Witness.{Witness}
+use Rattle.mpd_explore.specs.declared.report.EndWitness.{EndWitness}
 use Rattle.mpd_witness.specs.declared.report_lines.LineKind.{LineKind}
 use Rattle.mpd_witness.specs.declared.report_lines.LineKind.TheVariants.{OfLeaf, OfWitness, Wrong}
 use Rattle.mpd_witness.specs.declared.report_text.ReportFault.{ReportFault}
@@ -196,11 +196,11 @@ pub ruleset choosing = (none_there, several_there, one_there, no_leaf, last_leaf
 -- ---- the witness of a leaf
 
 pub leaf_refused : (i k : ℕ) (read : Option WitnessEnd) (steps : Option (List Step)) (n : ℕ) → (read ≡ None) × (k ≡ 1) → n ≡ i + 1 → with_both i read steps ≡ Err (BadLine n)
-leaf_refused i k read steps n h e = ap (λ o. with_both i o steps) h.0 ∙ ap (λ (j : ℕ). let r : Result Witness ReportFault = Err (BadLine j) in r) (let s : suc i ≡ n = omega (arith, e) in s)
+leaf_refused i k read steps n h e = ap (λ o. with_both i o steps) h.0 ∙ ap (λ (j : ℕ). let r : Result EndWitness ReportFault = Err (BadLine j) in r) (let s : suc i ≡ n = omega (arith, e) in s)
 
 pub steps_refused : (i : ℕ) (end : WitnessEnd) (read : Option WitnessEnd) (steps : Option (List Step)) (n : ℕ) → read ≡ Some end → steps ≡ None → n ≡ i + 2 → with_both i read steps ≡ Err (BadLine n)
 steps_refused i end read steps n h k e =
-    ap (λ o. with_both i o steps) h ∙ ap (λ (o : Option (List Step)). with_both i (Some end) o) k ∙ ap (λ (j : ℕ). let r : Result Witness ReportFault = Err (BadLine j) in r) (let s : suc (suc i) ≡ n = omega (arith, e) in s)
+    ap (λ o. with_both i o steps) h ∙ ap (λ (o : Option (List Step)). with_both i (Some end) o) k ∙ ap (λ (j : ℕ). let r : Result EndWitness ReportFault = Err (BadLine j) in r) (let s : suc (suc i) ≡ n = omega (arith, e) in s)
 
 pub both_there : (i : ℕ) (end : WitnessEnd) (xs : List Step) (read : Option WitnessEnd) (steps : Option (List Step)) → read ≡ Some end → steps ≡ Some xs → with_both i read steps ≡ Ok (record { steps = xs; end = end })
 both_there i end xs read steps h k = ap (λ o. with_both i o steps) h ∙ ap (λ (o : Option (List Step)). with_both i (Some end) o) k
@@ -234,7 +234,7 @@ no_line i ls ms all e d n = ap (λ (x : List (List ℕ)). witness_at i x) (ap (d
 pub no_second : (i : ℕ) (ls ms ks all : List (List ℕ)) (l : List ℕ) → ls ≡ all → ms ≡ drop i ls → ms ≡ l ∷ ks → ks ≡ [] → witness_at i (drop i all) ≡ Err NoWitness
 no_second i ls ms ks all l e d n o = ap (λ (x : List (List ℕ)). witness_at i x) (ap (drop i) (sym e) ∙ sym d ∙ n) ∙ ap (λ (x : List (List ℕ)). witness_at i (l ∷ x)) o
 
-pub both_lines : (i : ℕ) (ls ms ks js all : List (List ℕ)) (l m : List ℕ) (r : Result Witness ReportFault) → ls ≡ all → ms ≡ drop i ls → ms ≡ l ∷ ks → ks ≡ m ∷ js → ReadsReport (with_both i (end_read (line_of l)) (steps_of (line_of m))) r
+pub both_lines : (i : ℕ) (ls ms ks js all : List (List ℕ)) (l m : List ℕ) (r : Result EndWitness ReportFault) → ls ≡ all → ms ≡ drop i ls → ms ≡ l ∷ ks → ks ≡ m ∷ js → ReadsReport (with_both i (end_read (line_of l)) (steps_of (line_of m))) r
     → ReadsReport (witness_at i (drop i all)) r
 both_lines i ls ms ks js all l m r e d n o h =
     let same : witness_at i (drop i all) ≡ with_both i (end_read (line_of l)) (steps_of (line_of m)) = ap (λ (x : List (List ℕ)). witness_at i x) (ap (drop i) (sym e) ∙ sym d ∙ n) ∙ ap (λ (x : List (List ℕ)). witness_at i (l ∷ x)) o in
@@ -244,19 +244,19 @@ pub ruleset joining = (leaf_refused, steps_refused, both_there, no_line, no_seco
 
 -- ---- the whole text
 
-pub two_there : (x : Witness) (w : Result Witness ℕ) → w ≡ Ok x → as_two w ≡ Ok x
+pub two_there : (x : EndWitness) (w : Result EndWitness ℕ) → w ≡ Ok x → as_two w ≡ Ok x
 two_there x w e = ap as_two e
 
-pub two_wrong : (n : ℕ) (w : Result Witness ℕ) → w ≡ Err n → as_two w ≡ Err (BadLine n)
+pub two_wrong : (n : ℕ) (w : Result EndWitness ℕ) → w ≡ Err n → as_two w ≡ Err (BadLine n)
 two_wrong n w e = ap as_two e
 
-reads_of : (a b r : Result Witness ReportFault) → a ≡ b → ReadsReport b r → ReadsReport a r
+reads_of : (a b r : Result EndWitness ReportFault) → a ≡ b → ReadsReport b r → ReadsReport a r
 reads_of a b r e h = rw e h
 
 by_alone : (leaf : Option ℕ) (z : List ℕ) (v : Bool) → v ≡ are_alone leaf (parts_at 10 z) → witness_of_report leaf z ≡ (if v then as_two (witness_of z) else unless_wrong (wrong_line 1 None (parts_at 10 z)) leaf (parts_at 10 z))
 by_alone leaf z v e = ap (λ (b : Bool). if b then as_two (witness_of z) else unless_wrong (wrong_line 1 None (parts_at 10 z)) leaf (parts_at 10 z)) (sym e)
 
-pub alone_read : (leaf : Option ℕ) (z : List ℕ) (v : Bool) (r : Result Witness ReportFault) → v ≡ are_alone leaf (parts_at 10 z) → v ≡ true → ReadsReport (as_two (witness_of z)) r → ReadsReport (witness_of_report leaf z) r
+pub alone_read : (leaf : Option ℕ) (z : List ℕ) (v : Bool) (r : Result EndWitness ReportFault) → v ≡ are_alone leaf (parts_at 10 z) → v ≡ true → ReadsReport (as_two (witness_of z)) r → ReadsReport (witness_of_report leaf z) r
 alone_read leaf z v r e t h = reads_of (witness_of_report leaf z) (as_two (witness_of z)) r (by_alone leaf z true (sym t ∙ e)) h
 
 whole_is : (leaf : Option ℕ) (z : List ℕ) (v : Bool) (o : Option ℕ) → v ≡ are_alone leaf (parts_at 10 z) → v ≡ false → o ≡ wrong_line 1 None (parts_at 10 z) → witness_of_report leaf z ≡ unless_wrong o leaf (parts_at 10 z)
@@ -270,7 +270,7 @@ right_is : (leaf : Option ℕ) (z : List ℕ) (v : Bool) (o : Option ℕ) (q : R
 right_is leaf z v o q e f h w k =
     whole_is leaf z v o e f h ∙ ap (λ (x : Option ℕ). unless_wrong x leaf (parts_at 10 z)) w ∙ ap (λ (x : Result ℕ ReportFault). witness_of_leaf x (parts_at 10 z)) (sym k)
 
-pub place_read : (leaf : Option ℕ) (z : List ℕ) (v : Bool) (o : Option ℕ) (q : Result ℕ ReportFault) (p : ℕ) (r : Result Witness ReportFault) → v ≡ are_alone leaf (parts_at 10 z) → v ≡ false → o ≡ wrong_line 1 None (parts_at 10 z) → o ≡ None → q ≡ leaf_wanted leaf (parts_at 10 z)
+pub place_read : (leaf : Option ℕ) (z : List ℕ) (v : Bool) (o : Option ℕ) (q : Result ℕ ReportFault) (p : ℕ) (r : Result EndWitness ReportFault) → v ≡ are_alone leaf (parts_at 10 z) → v ≡ false → o ≡ wrong_line 1 None (parts_at 10 z) → o ≡ None → q ≡ leaf_wanted leaf (parts_at 10 z)
     → q ≡ Ok p → ReadsReport (witness_at p (drop p (parts_at 10 z))) r → ReadsReport (witness_of_report leaf z) r
 place_read leaf z v o q p r e f h w k s x =
     reads_of (witness_of_report leaf z) (witness_at p (drop p (parts_at 10 z))) r (right_is leaf z v o q e f h w k ∙ ap (λ (y : Result ℕ ReportFault). witness_of_leaf y (parts_at 10 z)) s) x
@@ -314,7 +314,7 @@ wanted_own : (leaf : Option ℕ) (ls : List (List ℕ)) → IsOwn (leaf_wanted l
 wanted_own None ls = sole_own (witness_from 0 ls)
 wanted_own (Some n) ls = named_own (leaf_from n 0 ls)
 
-refused_as : (f : ReportFault) (w : Result Witness ReportFault) → w ≡ Err f → IsOwn (Err f) → ReadsReport w (Err f)
+refused_as : (f : ReportFault) (w : Result EndWitness ReportFault) → w ≡ Err f → IsOwn (Err f) → ReadsReport w (Err f)
 refused_as (BadLine n) w e h = e
 refused_as NoWitness w e h = e
 refused_as SeveralWitnesses w e h = e

@@ -4,8 +4,8 @@ use Rattle.std.specs.Prelude.{codes}
 use Rattle.std.specs.Fmt.{decimal}
 use Rattle.std.specs.List.{AllByRecursion}
 use Rattle.mpd_model.specs.texts.Texts.{line}
-use Rattle.mpd_explore.specs.declared.report.Leaf.{Leaf}
-use Rattle.mpd_explore.specs.declared.report.Witness.{Witness}
+use Rattle.mpd_explore.specs.declared.report.SearchLeaf.{SearchLeaf}
+use Rattle.mpd_explore.specs.declared.report.EndWitness.{EndWitness}
 use Rattle.mpd_explore.specs.Witness.{end_of}
 use Rattle.mpd_explore.specs.ReportText.{choices_text, ending_text, leaf_line, witness_line}
 use Rattle.mpd_witness.specs.WitnessText.{witness_of}
@@ -19,7 +19,7 @@ grouped x c e =
     ∙ ap (λ (t : List ℕ). t ++ e) (append_assoc x (codes " [" ++ c) (codes "] "))
     ∙ append_assoc x (codes " [" ++ c ++ codes "] ") e)
 
-pub report_is_read : (n m : ℕ) (l : Leaf) (x : Witness) → n < 2 ^ 64 → m < 2 ^ 64 → AllByRecursion (λ c. c < 2 ^ 64) l.choices → end_of l.ending ≡ Some x.end → IsShort x
+pub report_is_read : (n m : ℕ) (l : SearchLeaf) (x : EndWitness) → n < 2 ^ 64 → m < 2 ^ 64 → AllByRecursion (λ c. c < 2 ^ 64) l.choices → end_of l.ending ≡ Some x.end → IsShort x
     → witness_of (leaf_line n l ++ witness_line m x) ≡ Ok x
 report_is_read n m l x f g k e h =
     ap (λ (t : List ℕ). witness_of (line t ++ witness_line m x)) (grouped (codes "leaf " ++ decimal n) (choices_text l.choices) (ending_text l.ending))

@@ -10,7 +10,7 @@ use Rattle.mpd_model.specs.texts.Words.{cut_at_dot, number_of, call_with, call_o
 use Rattle.mpd_explore.specs.declared.report.RankTrap.{RankTrap}
 use Rattle.mpd_explore.specs.declared.report.WitnessEnd.{WitnessEnd}
 use Rattle.mpd_explore.specs.declared.report.WitnessEnd.TheVariants as end_is
-use Rattle.mpd_explore.specs.declared.report.Witness.{Witness}
+use Rattle.mpd_explore.specs.declared.report.EndWitness.{EndWitness}
 use Rattle.mpd_witness.specs.WitnessText.{parts_at, cut_at, put_first, each_read, rank_trap_of, pairs_read, behind_word, some_of, end_with, end_read, steps_of, line_of, all_empty, with_steps, with_end, witness_in, witness_of, PairRead, ReadsLine, ReadsText}
 use Rattle.mpd_witness.specs.declared.witness_text.WitnessTextFault.{WitnessTextFault}
 use Rattle.mpd_witness.specs.declared.witness_text.WitnessTextFault.TheVariants.{BadLine, Memory}
@@ -228,7 +228,7 @@ first_line z l bytes ls ms e n b = ap witness_in (sym e ∙ n) ∙ ap (λ x. wit
 pub first_refused : (z l bytes : List ℕ) (ls ms : List (List ℕ)) (e : WitnessTextFault) → ls ≡ parts_at 10 z → ls ≡ l ∷ ms → bytes ≡ line_of l → ReadsLine 1 (end_read bytes) (Err e)
     → ReadsText (witness_of z) (Err e)
 first_refused z l bytes ls ms Memory p n b r = tt
-first_refused z l bytes ls ms (BadLine k) p n b r = first_line z l bytes ls ms p n b ∙ ap (λ o. with_end o ms) r.0 ∙ ap (λ (i : ℕ). let x : Result Witness ℕ = Err i in x) (sym r.1)
+first_refused z l bytes ls ms (BadLine k) p n b r = first_line z l bytes ls ms p n b ∙ ap (λ o. with_end o ms) r.0 ∙ ap (λ (i : ℕ). let x : Result EndWitness ℕ = Err i in x) (sym r.1)
 
 first_read : (z l bytes : List ℕ) (ls ms : List (List ℕ)) (end : WitnessEnd) → ls ≡ parts_at 10 z → ls ≡ l ∷ ms → bytes ≡ line_of l → end_read bytes ≡ Some end
     → witness_of z ≡ with_end (Some end) ms
@@ -247,7 +247,7 @@ pub second_refused : (z l bytes m second : List ℕ) (ls ms ks : List (List ℕ)
     → ms ≡ m ∷ ks → second ≡ line_of m → ReadsLine 2 (steps_of second) (Err e) → ReadsText (witness_of z) (Err e)
 second_refused z l bytes m second ls ms ks end Memory p n b r o s q = tt
 second_refused z l bytes m second ls ms ks end (BadLine k) p n b r o s q =
-    second_line z l bytes m second ls ms ks end p n b r o s ∙ ap (λ (x : Option (List Step)). with_steps end x (all_empty ks)) q.0 ∙ ap (λ (i : ℕ). let x : Result Witness ℕ = Err i in x) (sym q.1)
+    second_line z l bytes m second ls ms ks end p n b r o s ∙ ap (λ (x : Option (List Step)). with_steps end x (all_empty ks)) q.0 ∙ ap (λ (i : ℕ). let x : Result EndWitness ℕ = Err i in x) (sym q.1)
 
 second_read : (z l bytes m second : List ℕ) (ls ms ks : List (List ℕ)) (end : WitnessEnd) (steps : List Step) (over : Bool) → ls ≡ parts_at 10 z → ls ≡ l ∷ ms → bytes ≡ line_of l → end_read bytes ≡ Some end
     → ms ≡ m ∷ ks → second ≡ line_of m → steps_of second ≡ Some steps → over ≡ all_empty ks → witness_of z ≡ with_steps end (Some steps) over

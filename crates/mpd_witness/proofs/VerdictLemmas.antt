@@ -7,11 +7,11 @@ use Rattle.mpd_model.specs.steps.World.{World}
 use Rattle.mpd_model.specs.steps.Next.{fold}
 use Rattle.mpd_model.specs.steps.Outcomes.{outcome}
 use Rattle.mpd_model.specs.texts.Texts.{line}
-use Rattle.mpd_lines.specs.Seen.{SinkSeen}
-use Rattle.mpd_explore.specs.declared.report.Witness.{Witness}
+use Rattle.mpd_model.specs.devices.Seen.{SinkSeen}
+use Rattle.mpd_explore.specs.declared.report.EndWitness.{EndWitness}
 use Rattle.mpd_explore.specs.declared.verifier.WitnessFault.{WitnessFault}
 use Rattle.mpd_explore.specs.declared.verifier.WitnessFault.TheVariants.{NoSuchStep, NotStuck, WrongBlocked, Memory}
-use Rattle.mpd_explore.specs.Witness.{end_in, IsWitnessFrom, HasFault}
+use Rattle.mpd_explore.specs.Witness.{end_in, IsEndWitnessFrom, HasFault}
 use Rattle.mpd_explore.specs.Faults.{witness_fault_name}
 use Rattle.mpd_lines.specs.declared.engine.EngineFault.TheVariants.{WriteFailed}
 use Rattle.mpd_lines.specs.declared.verdict.Verdict.{Verdict}
@@ -36,7 +36,7 @@ line_joined old new a b c d e number name part h i j k l m = rw (m, l, k, j, i, 
 
 -- ---- the verdict where the verifier has accepted, and where it has found this fault
 
-pub is_accepted : (w last : World) (x : Witness) (old new : List ℕ) (verdict : Verdict) → (fold w x.steps ≡ Some last) × (end_in (outcome last) ≡ Some x.end) → old ≡ [] → new ≡ old ++ accepted_line → verdict ≡ Good
+pub is_accepted : (w last : World) (x : EndWitness) (old new : List ℕ) (verdict : Verdict) → (fold w x.steps ≡ Some last) × (end_in (outcome last) ≡ Some x.end) → old ≡ [] → new ≡ old ++ accepted_line → verdict ≡ Good
     → IsVerdictFrom w x new verdict
 is_accepted w last x old new verdict h e t is =
     let P : Verdict → Type 0 = λ v. IsVerdictFrom w x new v in
@@ -55,7 +55,7 @@ no_memory NotStuck i h = let x : ⊥ = cc in x
 no_memory WrongBlocked i h = let x : ⊥ = cc in x
 no_memory Memory i h = i
 
-pub is_refused : (w : World) (x : Witness) (f e : WitnessFault) (old new : List ℕ) (verdict : Verdict) → f ≡ e → IsOfWitness e → (f ≢ Memory → HasFault w 0 x.steps x.end f) → (IsWitnessFrom w x → f ≡ Memory)
+pub is_refused : (w : World) (x : EndWitness) (f e : WitnessFault) (old new : List ℕ) (verdict : Verdict) → f ≡ e → IsOfWitness e → (f ≢ Memory → HasFault w 0 x.steps x.end f) → (IsEndWitnessFrom w x → f ≡ Memory)
     → old ≡ [] → new ≡ old ++ refused_line e → verdict ≡ Bad → IsVerdictFrom w x new verdict
 is_refused w x f e old new verdict is i h n b t k =
     let not : f ≢ Memory = λ m. no_memory e i (sym is ∙ m) in
@@ -65,13 +65,13 @@ is_refused w x f e old new verdict is i h n b t k =
 
 -- ---- what is written
 
-pub was_told : (s : Program) (mode : Mode) (x : Witness) (old new : SinkSeen) (text bytes : List ℕ) (verdict : Verdict) → IsVerdict s mode x text verdict → bytes ≡ text
+pub was_told : (s : Program) (mode : Mode) (x : EndWitness) (old new : SinkSeen) (text bytes : List ℕ) (verdict : Verdict) → IsVerdict s mode x text verdict → bytes ≡ text
     → Appends old.contents new.contents bytes → new.failures ≡ old.failures → Judged s mode x old new (Ok verdict)
 was_told s mode x old new text bytes verdict v b a f =
     let P : List ℕ → Type 0 = λ t. Appends old.contents new.contents t in
     (text, v, subst P b a, f)
 
-pub was_cut : (s : Program) (mode : Mode) (x : Witness) (old new : SinkSeen) (text bytes : List ℕ) (verdict : Verdict) → IsVerdict s mode x text verdict → bytes ≡ text
+pub was_cut : (s : Program) (mode : Mode) (x : EndWitness) (old new : SinkSeen) (text bytes : List ℕ) (verdict : Verdict) → IsVerdict s mode x text verdict → bytes ≡ text
     → AppendsPart old.contents new.contents bytes → new.failures ≡ old.failures + 1 → Judged s mode x old new (Err WriteFailed)
 was_cut s mode x old new text bytes verdict v b a f =
     let P : List ℕ → Type 0 = λ t. AppendsPart old.contents new.contents t in

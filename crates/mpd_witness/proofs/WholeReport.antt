@@ -10,9 +10,11 @@ use Rattle.mpd_model.specs.declared.step.Step.{Step}
 use Rattle.mpd_model.specs.texts.Lines.{is_none}
 use Rattle.mpd_model.specs.steps.World.{World}
 use Rattle.mpd_model.specs.texts.Texts.{line, steps_text}
-use Rattle.mpd_explore.specs.declared.report.Leaf.{Leaf}
+use Rattle.mpd_explore.specs.declared.report.SearchLeaf.{SearchLeaf}
 use Rattle.mpd_explore.specs.declared.report.WitnessEnd.{WitnessEnd}
-use Rattle.mpd_explore.specs.declared.report.Witness.{Witness}
+use Rattle.mpd_explore.specs.declared.report.EndWitness.{EndWitness}
+use Rattle.mpd_explore.specs.declared.report.Witnesses.{Witnesses}
+use Rattle.mpd_explore.specs.Asked.{asks, asked_text}
 use Rattle.mpd_model.specs.declared.decision.Decision.{Decision}
 use Rattle.mpd_policy.specs.Walk.{run_by, steps_by}
 use Rattle.mpd_explore.specs.Witness.{end_of, witness_to, witness_by}
@@ -104,7 +106,7 @@ feed_total = record { digit = refl; total = refl; others = refl; answers = feed_
 return_total : IsNoTotal 13
 return_total = record { digit = refl; total = refl; others = refl; answers = return_more }
 
-leaf_clear : (c n : ℕ) → IsNoEnd c → (l : Leaf) → n < 1000000000 → AllByRecursion Fits l.choices → IsShortEnding l.ending → is_clear c (leaf_words n (leaf_text l)) ≡ true
+leaf_clear : (c n : ℕ) → IsNoEnd c → (l : SearchLeaf) → n < 1000000000 → AllByRecursion Fits l.choices → IsShortEnding l.ending → is_clear c (leaf_words n (leaf_text l)) ≡ true
 leaf_clear c n k l f g h =
     let a = clear_join c (codes "leaf ") (decimal n) k.line.leaf (decimal_clear c n k.line.apart.digit (wide n f)) in
     let opened : is_clear c (32 ∷ codes "[") ≡ true = k.line.opens in
@@ -117,46 +119,68 @@ total_clear c n k more h =
     clear_join c (codes "leaves " ++ decimal n ++ codes " more ") (more_text more)
     (clear_join c (codes "leaves " ++ decimal n) (codes " more ") (clear_join c (codes "leaves ") (decimal n) k.total (decimal_clear c n k.digit (wide n h))) k.others) (k.answers more)
 
+-- ---- which witnesses are told
+
+abbrev told_by : Bool → Option EndWitness → Option EndWitness
+told_by false o = None
+told_by true o = o
+
+lines_by : (b : Bool) (n : ℕ) (o : Option EndWitness) → (if b then witness_lines n o else []) ≡ witness_lines n (told_by b o)
+lines_by false n o = refl
+lines_by true n o = refl
+
+short_by : (b : Bool) (o : Option EndWitness) → AreShortSteps o → AreShortSteps (told_by b o)
+short_by false o h = tt
+short_by true o h = h
+
+some_by : (b : Bool) (o : Option EndWitness) (x : EndWitness) → told_by b o ≡ Some x → o ≡ Some x
+some_by false o x h = absurd (let z : ⊥ = cc in z)
+some_by true o x h = h
+
 -- ---- the lines of a report
 
-module _ (decide : World → Decision) (before : List Step) (fuel : ℕ) (w : World) where
-  abbrev told : Leaf → Option Witness
-  told l = witness_at_leaf decide before fuel w l
+module _ (decide : World → Decision) (asked : Witnesses) (before : List Step) (fuel : ℕ) (w : World) where
+  abbrev told : SearchLeaf → Option EndWitness
+  told l = told_by (asks asked l.ending) (witness_at_leaf decide before fuel w l)
+
+  steps_told : (l : SearchLeaf) → IsShortLeaf decide before fuel w l → AreShortSteps (told l)
+  steps_told l h = short_by (asks asked l.ending) (witness_at_leaf decide before fuel w l) h.steps
 
   -- the line of a witness, where there is one
-  abbrev row : ℕ → Option Witness → List (List ℕ) → List (List ℕ)
+  abbrev row : ℕ → Option EndWitness → List (List ℕ) → List (List ℕ)
   row n None ls = ls
   row n (Some x) ls = witness_words n (steps_text x.steps) ∷ ls
 
-  abbrev rows : ℕ → List Leaf → List (List ℕ) → List (List ℕ)
+  abbrev rows : ℕ → List SearchLeaf → List (List ℕ) → List (List ℕ)
   rows n [] behind = behind
   rows n (l ∷ ls) behind = leaf_words n (leaf_text l) ∷ row n (told l) (rows (suc n) ls behind)
 
   next_part : (a z : List ℕ) (ps : List (List ℕ)) → is_clear 10 a ≡ true → parts_at 10 z ≡ ps → parts_at 10 (line a ++ z) ≡ a ∷ ps
   next_part a z ps e h = ap (parts_at 10) (append_assoc a (10 ∷ []) z) ∙ parts_next 10 a z e ∙ ap (λ qs. a ∷ qs) h
 
-  row_parts : (n : ℕ) (x : Option Witness) (z : List ℕ) (ps : List (List ℕ)) → n < 1000000000 → AreShortSteps x → parts_at 10 z ≡ ps → parts_at 10 (witness_lines n x ++ z) ≡ row n x ps
+  row_parts : (n : ℕ) (x : Option EndWitness) (z : List ℕ) (ps : List (List ℕ)) → n < 1000000000 → AreShortSteps x → parts_at 10 z ≡ ps → parts_at 10 (witness_lines n x ++ z) ≡ row n x ps
   row_parts n None z ps f h e = e
   row_parts n (Some x) z ps f h e = next_part (witness_words n (steps_text x.steps)) z ps (second_clear 10 n feed_apart x.steps (wide n f) h) e
 
-  leaves_parts : (n : ℕ) (leaves : List Leaf) (z : List ℕ) (ps : List (List ℕ)) → n + length leaves < 1000000000 → AllByRecursion (IsShortLeaf decide before fuel w) leaves → parts_at 10 z ≡ ps
-      → parts_at 10 (leaves_text decide true before fuel w n leaves ++ z) ≡ rows n leaves ps
+  leaves_parts : (n : ℕ) (leaves : List SearchLeaf) (z : List ℕ) (ps : List (List ℕ)) → n + length leaves < 1000000000 → AllByRecursion (IsShortLeaf decide before fuel w) leaves → parts_at 10 z ≡ ps
+      → parts_at 10 (leaves_text decide asked before fuel w n leaves ++ z) ≡ rows n leaves ps
   leaves_parts n [] z ps f h e = e
   leaves_parts n (l ∷ ls) z ps f h e =
       let small : n < 1000000000 = omega (arith, f) in
-      let rest : List ℕ = leaves_text decide true before fuel w (suc n) ls in
+      let rest : List ℕ = leaves_text decide asked before fuel w (suc n) ls in
       let wit : List ℕ = witness_lines n (told l) in
-      ap (parts_at 10) (append_assoc (leaf_line n l ++ wit) rest z ∙ append_assoc (leaf_line n l) wit (rest ++ z))
+      ap (λ (v : List ℕ). parts_at 10 (((leaf_line n l ++ v) ++ rest) ++ z)) (lines_by (asks asked l.ending) n (witness_at_leaf decide before fuel w l))
+      ∙ ap (parts_at 10) (append_assoc (leaf_line n l ++ wit) rest z ∙ append_assoc (leaf_line n l) wit (rest ++ z))
       ∙ next_part (leaf_words n (leaf_text l)) (wit ++ (rest ++ z)) (row n (told l) (rows (suc n) ls ps)) (leaf_clear 10 n feed_end l small h.0.choices h.0.ending)
-      (row_parts n (told l) (rest ++ z) (rows (suc n) ls ps) small h.0.steps (leaves_parts (suc n) ls z ps (omega (arith, f)) h.1 e))
+      (row_parts n (told l) (rest ++ z) (rows (suc n) ls ps) small (steps_told l h.0) (leaves_parts (suc n) ls z ps (omega (arith, f)) h.1 e))
 
   -- ---- none is wrong
 
-  leaf_kind : (n : ℕ) (l : Leaf) → n < 1000000000 → IsShortLeaf decide before fuel w l → kind_of (line_of (leaf_words n (leaf_text l))) ≡ OfLeaf n
+  leaf_kind : (n : ℕ) (l : SearchLeaf) → n < 1000000000 → IsShortLeaf decide before fuel w l → kind_of (line_of (leaf_words n (leaf_text l))) ≡ OfLeaf n
   leaf_kind n l f h =
       ap kind_of (line_clear (leaf_words n (leaf_text l)) (leaf_clear 10 n feed_end l f h.choices h.ending) (leaf_clear 13 n return_end l f h.choices h.ending)) ∙ leaf_is n (leaf_text l) f
 
-  witness_kind : (n : ℕ) (x : Witness) → n < 1000000000 → AllByRecursion IsShortStep x.steps → kind_of (line_of (witness_words n (steps_text x.steps))) ≡ OfWitness n
+  witness_kind : (n : ℕ) (x : EndWitness) → n < 1000000000 → AllByRecursion IsShortStep x.steps → kind_of (line_of (witness_words n (steps_text x.steps))) ≡ OfWitness n
   witness_kind n x f h =
       ap kind_of (line_clear (witness_words n (steps_text x.steps)) (second_clear 10 n feed_apart x.steps (wide n f) h) (second_clear 13 n return_apart x.steps (wide n f) h)) ∙ witness_is n (steps_text x.steps) f
 
@@ -167,20 +191,20 @@ module _ (decide : World → Decision) (before : List Step) (fuel : ℕ) (w : Wo
   on_kind i b k l ls is follows h =
       ap (λ (x : LineKind). if may_follow b x then wrong_line (suc i) (leaf_number x) ls else Some i) is ∙ ap (λ (v : Bool). if v then wrong_line (suc i) (leaf_number k) ls else Some i) follows ∙ h (suc i) (leaf_number k)
 
-  row_right : (n : ℕ) (x : Option Witness) (ls : List (List ℕ)) (i : ℕ) → n < 1000000000 → AreShortSteps x → NoneWrong ls → wrong_line i (Some n) (row n x ls) ≡ None
+  row_right : (n : ℕ) (x : Option EndWitness) (ls : List (List ℕ)) (i : ℕ) → n < 1000000000 → AreShortSteps x → NoneWrong ls → wrong_line i (Some n) (row n x ls) ≡ None
   row_right n None ls i f h r = r i (Some n)
   row_right n (Some x) ls i f h r = on_kind i (Some n) (OfWitness n) (witness_words n (steps_text x.steps)) ls (witness_kind n x f h) (same_byte n) r
 
-  rows_right : (n : ℕ) (leaves : List Leaf) (behind : List (List ℕ)) → n + length leaves < 1000000000 → AllByRecursion (IsShortLeaf decide before fuel w) leaves → NoneWrong behind → NoneWrong (rows n leaves behind)
+  rows_right : (n : ℕ) (leaves : List SearchLeaf) (behind : List (List ℕ)) → n + length leaves < 1000000000 → AllByRecursion (IsShortLeaf decide before fuel w) leaves → NoneWrong behind → NoneWrong (rows n leaves behind)
   rows_right n [] behind f h r = r
   rows_right n (l ∷ ls) behind f h r = λ i b.
       let small : n < 1000000000 = omega (arith, f) in
       ap (λ (x : LineKind). if may_follow b x then wrong_line (suc i) (leaf_number x) (row n (told l) (rows (suc n) ls behind)) else Some i) (leaf_kind n l small h.0)
-      ∙ row_right n (told l) (rows (suc n) ls behind) (suc i) small h.0.steps (rows_right (suc n) ls behind (omega (arith, f)) h.1 r)
+      ∙ row_right n (told l) (rows (suc n) ls behind) (suc i) small (steps_told l h.0) (rows_right (suc n) ls behind (omega (arith, f)) h.1 r)
 
   -- ---- the leaf is found
 
-  abbrev Found : ℕ → ℕ → List (List ℕ) → Leaf → Type 0
+  abbrev Found : ℕ → ℕ → List (List ℕ) → SearchLeaf → Type 0
   Found n i ls l = (p : ℕ) × (more : List (List ℕ)) × (leaf_from n i ls ≡ Some (p, leaf_words n (leaf_text l) ∷ row n (told l) more))
 
   past : (n i : ℕ) (k : LineKind) (l : List ℕ) (ls : List (List ℕ)) → kind_of (line_of l) ≡ k → is_leaf n k ≡ false → leaf_from n i (l ∷ ls) ≡ leaf_from n (suc i) ls
@@ -195,13 +219,13 @@ module _ (decide : World → Decision) (before : List Step) (fuel : ℕ) (w : Wo
         | false ↦ λ k. refl
       ] refl
 
-  past_row : (m n i : ℕ) (x : Option Witness) (ls : List (List ℕ)) (l : Leaf) → n < 1000000000 → AreShortSteps x → ((i : ℕ) → Found m i ls l) → Found m i (row n x ls) l
+  past_row : (m n i : ℕ) (x : Option EndWitness) (ls : List (List ℕ)) (l : SearchLeaf) → n < 1000000000 → AreShortSteps x → ((i : ℕ) → Found m i ls l) → Found m i (row n x ls) l
   past_row m n i None ls l f h found = found i
   past_row m n i (Some x) ls l f h found =
       let there = found (suc i) in
       (there.0, there.1, past m i (OfWitness n) (witness_words n (steps_text x.steps)) ls (witness_kind n x f h) refl ∙ there.2)
 
-  found_at : (m n k i : ℕ) (leaves : List Leaf) (behind : List (List ℕ)) (l : Leaf) → m ≡ n + k → n + length leaves < 1000000000 → AllByRecursion (IsShortLeaf decide before fuel w) leaves → slice_get leaves k ≡ Some l → Found m i (rows n leaves behind) l
+  found_at : (m n k i : ℕ) (leaves : List SearchLeaf) (behind : List (List ℕ)) (l : SearchLeaf) → m ≡ n + k → n + length leaves < 1000000000 → AllByRecursion (IsShortLeaf decide before fuel w) leaves → slice_get leaves k ≡ Some l → Found m i (rows n leaves behind) l
   found_at m n k i [] behind l e f h s = absurd (let x : ⊥ = cc in x)
   found_at m n zero i (q ∷ ls) behind l e f h s =
       let small : n < 1000000000 = omega (arith, f) in
@@ -212,12 +236,12 @@ module _ (decide : World → Decision) (before : List Step) (fuel : ℕ) (w : Wo
         ap (λ j. leaf_from j i (rows n (q ∷ ls) behind)) number
             ∙ ap (λ (x : LineKind). let r : Option (ℕ × List (List ℕ)) = if is_leaf n x then Some (i, rows n (q ∷ ls) behind) else leaf_from n (suc i) (row n (told q) (rows (suc n) ls behind)) in r) (leaf_kind n q small h.0)
             ∙ ap (λ (v : Bool). let r : Option (ℕ × List (List ℕ)) = if v then Some (i, rows n (q ∷ ls) behind) else leaf_from n (suc i) (row n (told q) (rows (suc n) ls behind)) in r) (same_byte n)
-            ∙ ap (λ (y : Leaf). let r : Option (ℕ × List (List ℕ)) = Some (i, leaf_words n (leaf_text y) ∷ row n (told y) (rows (suc n) ls behind)) in r) same
+            ∙ ap (λ (y : SearchLeaf). let r : Option (ℕ × List (List ℕ)) = Some (i, leaf_words n (leaf_text y) ∷ row n (told y) (rows (suc n) ls behind)) in r) same
             ∙ ap (λ j. let r : Option (ℕ × List (List ℕ)) = Some (i, leaf_words j (leaf_text l) ∷ row j (told l) (rows (suc n) ls behind)) in r) (sym number),
       )
   found_at m n (suc k) i (q ∷ ls) behind l e f h s =
       let small : n < 1000000000 = omega (arith, f) in
-      let there = past_row m n (suc i) (told q) (rows (suc n) ls behind) l small h.0.steps (λ j. found_at m (suc n) k j ls behind l (omega (arith, e)) (omega (arith, f)) h.1 s) in
+      let there = past_row m n (suc i) (told q) (rows (suc n) ls behind) l small (steps_told q h.0) (λ j. found_at m (suc n) k j ls behind l (omega (arith, e)) (omega (arith, f)) h.1 s) in
       (there.0, there.1, past m i (OfLeaf n) (leaf_words n (leaf_text q)) (row n (told q) (rows (suc n) ls behind)) (leaf_kind n q small h.0) (other_number n m (omega (arith, e))) ∙ there.2)
 
   -- ---- and read
@@ -243,34 +267,34 @@ module _ (decide : World → Decision) (before : List Step) (fuel : ℕ) (w : Wo
   is_there n i [] = tt
   is_there n i (l ∷ ls) = there_by (is_leaf n (kind_of (line_of l))) n i l ls (is_there n (suc i) ls)
 
-  end_at : (steps : List Step) (end : Option WitnessEnd) (x : Witness) → witness_to steps end ≡ Some x → end ≡ Some x.end
+  end_at : (steps : List Step) (end : Option WitnessEnd) (x : EndWitness) → witness_to steps end ≡ Some x → end ≡ Some x.end
   end_at steps None x h = absurd (let z : ⊥ = cc in z)
   end_at steps (Some end) x h = let same : end ≡ x.end = cc in ap (λ (e : WitnessEnd). Some e) same
 
-  both_read : (n p : ℕ) (l : Leaf) (x : Witness) → n < 1000000000 → IsShortLeaf decide before fuel w l → told l ≡ Some x → IsShort x → with_both p (end_read (line_of (leaf_words n (leaf_text l)))) (steps_of (line_of (witness_words n (steps_text x.steps)))) ≡ Ok x
+  both_read : (n p : ℕ) (l : SearchLeaf) (x : EndWitness) → n < 1000000000 → IsShortLeaf decide before fuel w l → told l ≡ Some x → IsShort x → with_both p (end_read (line_of (leaf_words n (leaf_text l)))) (steps_of (line_of (witness_words n (steps_text x.steps)))) ≡ Ok x
   both_read n p l x f h t s =
       let a : List ℕ = leaf_words n (leaf_text l) in
       let b : List ℕ = witness_words n (steps_text x.steps) in
       let bare_a : line_of a ≡ a = line_clear a (leaf_clear 10 n feed_end l f h.choices h.ending) (leaf_clear 13 n return_end l f h.choices h.ending) in
       let bare_b : line_of b ≡ b = line_clear b (second_clear 10 n feed_apart x.steps (wide n f) s.steps) (second_clear 13 n return_apart x.steps (wide n f) s.steps) in
-      let end : end_of l.ending ≡ Some x.end = end_at (before ++ steps_by (run_by decide fuel l.choices w)) (end_of l.ending) x t in
+      let end : end_of l.ending ≡ Some x.end = end_at (before ++ steps_by (run_by decide fuel l.choices w)) (end_of l.ending) x (some_by (asks asked l.ending) (witness_at_leaf decide before fuel w l) x t) in
       let first : end_read (line_of a) ≡ Some x.end =
       ap end_read (bare_a ∙ grouped (codes "leaf " ++ decimal n) (choices_text l.choices) (ending_text l.ending)) ∙ first_read_back n l.choices l.ending x.end (wide n f) h.choices end s.end in
       let second : steps_of (line_of b) ≡ Some x.steps = ap steps_of bare_b ∙ second_read_back n x.steps (wide n f) s.steps s.some_step in
       ap (λ (q : Option WitnessEnd). with_both p q (steps_of (line_of b))) first ∙ ap (λ (q : Option (List Step)). with_both p (Some x.end) q) second
 
-  named_is : (n p : ℕ) (ls more : List (List ℕ)) (l : Leaf) (x : Witness) → n < 1000000000 → AllByRecursion IsShortStep x.steps → told l ≡ Some x → leaf_from n 0 ls ≡ Some (p, leaf_words n (leaf_text l) ∷ row n (told l) more) → named_leaf n ls ≡ Ok p
+  named_is : (n p : ℕ) (ls more : List (List ℕ)) (l : SearchLeaf) (x : EndWitness) → n < 1000000000 → AllByRecursion IsShortStep x.steps → told l ≡ Some x → leaf_from n 0 ls ≡ Some (p, leaf_words n (leaf_text l) ∷ row n (told l) more) → named_leaf n ls ≡ Ok p
   named_is n p ls more l x f h t e =
       let a : List ℕ = leaf_words n (leaf_text l) in
-      ap named_from e ∙ ap (λ (q : Option Witness). witnessed p (a ∷ row n q more)) t
+      ap named_from e ∙ ap (λ (q : Option EndWitness). witnessed p (a ∷ row n q more)) t
       ∙ ap (λ (k : LineKind). let r : Result ℕ ReportFault = if is_witness k then Ok p else Err (unwitnessed (line_of a)) in r) (witness_kind n x f h)
 
-  dropped : (n p : ℕ) (ls more : List (List ℕ)) (l : Leaf) (x : Witness) → told l ≡ Some x → leaf_from n 0 ls ≡ Some (p, leaf_words n (leaf_text l) ∷ row n (told l) more) → drop p ls ≡ leaf_words n (leaf_text l) ∷ witness_words n (steps_text x.steps) ∷ more
+  dropped : (n p : ℕ) (ls more : List (List ℕ)) (l : SearchLeaf) (x : EndWitness) → told l ≡ Some x → leaf_from n 0 ls ≡ Some (p, leaf_words n (leaf_text l) ∷ row n (told l) more) → drop p ls ≡ leaf_words n (leaf_text l) ∷ witness_words n (steps_text x.steps) ∷ more
   dropped n p ls more l x t e =
       let there : IsThere 0 (Some (p, leaf_words n (leaf_text l) ∷ row n (told l) more)) ls = there_as 0 (leaf_from n 0 ls) (Some (p, leaf_words n (leaf_text l) ∷ row n (told l) more)) ls e (is_there n 0 ls) in
-      ap (λ k. drop k ls) (let s : p ≡ p - 0 = omega arith in s) ∙ there.1 ∙ ap (λ (q : Option Witness). leaf_words n (leaf_text l) ∷ row n q more) t
+      ap (λ k. drop k ls) (let s : p ≡ p - 0 = omega arith in s) ∙ there.1 ∙ ap (λ (q : Option EndWitness). leaf_words n (leaf_text l) ∷ row n q more) t
 
-  rows_read : (n : ℕ) (leaves : List Leaf) (ls : List (List ℕ)) (l : Leaf) (x : Witness) → n < 1000000000 → IsShortLeaf decide before fuel w l → told l ≡ Some x → IsShort x → wrong_line 1 None ls ≡ None → Found n 0 ls l → unless_wrong (wrong_line 1 None ls) (Some n) ls ≡ Ok x
+  rows_read : (n : ℕ) (leaves : List SearchLeaf) (ls : List (List ℕ)) (l : SearchLeaf) (x : EndWitness) → n < 1000000000 → IsShortLeaf decide before fuel w l → told l ≡ Some x → IsShort x → wrong_line 1 None ls ≡ None → Found n 0 ls l → unless_wrong (wrong_line 1 None ls) (Some n) ls ≡ Ok x
   rows_read n leaves ls l x f h t s right found =
       let p : ℕ = found.0 in
       ap (λ (q : Option ℕ). unless_wrong q (Some n) ls) right
@@ -278,16 +302,16 @@ module _ (decide : World → Decision) (before : List Step) (fuel : ℕ) (w : Wo
       ∙ ap (witness_at p) (dropped n p ls found.1 l x t found.2)
       ∙ both_read n p l x f h t s
 
-  leaf_at : (k : ℕ) (leaves : List Leaf) (l : Leaf) → AllByRecursion (IsShortLeaf decide before fuel w) leaves → slice_get leaves k ≡ Some l → IsShortLeaf decide before fuel w l
+  leaf_at : (k : ℕ) (leaves : List SearchLeaf) (l : SearchLeaf) → AllByRecursion (IsShortLeaf decide before fuel w) leaves → slice_get leaves k ≡ Some l → IsShortLeaf decide before fuel w l
   leaf_at k [] l h s = absurd (let z : ⊥ = cc in z)
   leaf_at zero (q ∷ ls) l h s = let same : q ≡ l = cc in rw (sym same) h.0
   leaf_at (suc k) (q ∷ ls) l h s = leaf_at k ls l h.1 s
 
-  within : (k : ℕ) (leaves : List Leaf) (l : Leaf) → slice_get leaves k ≡ Some l → k < length leaves
+  within : (k : ℕ) (leaves : List SearchLeaf) (l : SearchLeaf) → slice_get leaves k ≡ Some l → k < length leaves
   within k leaves l s = slice_get_within leaves k l s
 
-  pub leaf_in : (leaves : List Leaf) (more : Bool) (n : ℕ) (l : Leaf) (x : Witness) → length leaves < 1000000000 → AllByRecursion (IsShortLeaf decide before fuel w) leaves → slice_get leaves n ≡ Some l → told l ≡ Some x → IsShort x
-      → witness_of_report (Some n) (report_text decide true before fuel w leaves more) ≡ Ok x
+  pub leaf_in : (leaves : List SearchLeaf) (more : Bool) (n : ℕ) (l : SearchLeaf) (x : EndWitness) → length leaves < 1000000000 → AllByRecursion (IsShortLeaf decide before fuel w) leaves → slice_get leaves n ≡ Some l → told l ≡ Some x → IsShort x
+      → witness_of_report (Some n) (report_text decide asked before fuel w leaves more) ≡ Ok x
   leaf_in leaves more n l x f h s t short =
       let k : ℕ = length leaves in
       let total : List ℕ = total_words k more in
@@ -295,11 +319,11 @@ module _ (decide : World → Decision) (before : List Step) (fuel : ℕ) (w : Wo
       let last : parts_at 10 (line total) ≡ behind = parts_next 10 total [] (total_clear 10 k feed_total more f) in
       let bare : line_of total ≡ total = line_clear total (total_clear 10 k feed_total more f) (total_clear 13 k return_total more f) in
       let ends : NoneWrong behind = λ i b. on_kind i b Passed total ([] ∷ []) (ap kind_of bare ∙ total_is k more f) refl (λ j c. refl) in
-      let cut : parts_at 10 (report_text decide true before fuel w leaves more) ≡ rows 0 leaves behind = leaves_parts 0 leaves (line total) behind (omega (arith, f)) h last in
+      let cut : parts_at 10 (report_text decide asked before fuel w leaves more) ≡ rows 0 leaves behind = leaves_parts 0 leaves (line total) behind (omega (arith, f)) h last in
       ap (λ (ls : List (List ℕ)). unless_wrong (wrong_line 1 None ls) (Some n) ls) cut
       ∙ rows_read n leaves (rows 0 leaves behind) l x (omega (arith, f, within n leaves l s)) (leaf_at n leaves l h s) t short (rows_right 0 leaves behind (omega (arith, f)) h ends 1 None)
       (found_at n 0 n 0 leaves behind l (omega arith) (omega (arith, f)) h s)
 
-pub leaf_is_read : (decide : World → Decision) (before : List Step) (fuel : ℕ) (w : World) (leaves : List Leaf) (more : Bool) (n : ℕ) (l : Leaf) (x : Witness) → length leaves < 1000000000 → AllByRecursion (IsShortLeaf decide before fuel w) leaves → slice_get leaves n ≡ Some l → witness_at_leaf decide before fuel w l ≡ Some x → IsShort x
-    → witness_of_report (Some n) (report_text decide true before fuel w leaves more) ≡ Ok x
-leaf_is_read decide before fuel w leaves more n l x f h s t short = leaf_in decide before fuel w leaves more n l x f h s t short
+pub leaf_is_read : (decide : World → Decision) (asked : Witnesses) (before : List Step) (fuel : ℕ) (w : World) (leaves : List SearchLeaf) (more : Bool) (n : ℕ) (l : SearchLeaf) (x : EndWitness) → length leaves < 1000000000 → AllByRecursion (IsShortLeaf decide before fuel w) leaves → slice_get leaves n ≡ Some l → asks asked l.ending ≡ true → witness_at_leaf decide before fuel w l ≡ Some x → IsShort x
+    → witness_of_report (Some n) (report_text decide asked before fuel w leaves more) ≡ Ok x
+leaf_is_read decide asked before fuel w leaves more n l x f h s on t short = leaf_in decide asked before fuel w leaves more n l x f h s (ap (λ b. told_by b (witness_at_leaf decide before fuel w l)) on ∙ t) short

@@ -4,7 +4,7 @@ use Rattle.mpd_model.specs.declared.step.Step.{Step}
 use Rattle.mpd_model.specs.texts.Lines.{is_none}
 use Rattle.mpd_model.specs.texts.Words.{number_of}
 use Rattle.mpd_explore.specs.declared.report.WitnessEnd.{WitnessEnd}
-use Rattle.mpd_explore.specs.declared.report.Witness.{Witness}
+use Rattle.mpd_explore.specs.declared.report.EndWitness.{EndWitness}
 use Rattle.mpd_lines.specs.declared.engine.EngineFault.TheVariants as engine
 use Rattle.mpd_witness.specs.declared.report_lines.LineKind.{LineKind}
 use Rattle.mpd_witness.specs.declared.report_lines.LineKind.TheVariants.{Passed, OfLeaf, OfWitness, Wrong}
@@ -166,22 +166,22 @@ leaf_wanted (Some n) ls = named_leaf n ls
 
 -- ---- the witness
 
-abbrev pub with_both : ℕ → Option WitnessEnd → Option (List Step) → Result Witness ReportFault
+abbrev pub with_both : ℕ → Option WitnessEnd → Option (List Step) → Result EndWitness ReportFault
 with_both i None steps = Err (BadLine (suc i))
 with_both i (Some end) None = Err (BadLine (suc (suc i)))
 with_both i (Some end) (Some steps) = Ok (record { steps = steps; end = end })
 
 -- the witness whose leaf has so many lines before it
-abbrev pub witness_at : ℕ → List (List ℕ) → Result Witness ReportFault
+abbrev pub witness_at : ℕ → List (List ℕ) → Result EndWitness ReportFault
 witness_at i [] = Err NoSuchLeaf
 witness_at i (l ∷ []) = Err NoWitness
 witness_at i (l ∷ m ∷ ls) = with_both i (end_read (line_of l)) (steps_of (line_of m))
 
-abbrev pub witness_of_leaf : Result ℕ ReportFault → List (List ℕ) → Result Witness ReportFault
+abbrev pub witness_of_leaf : Result ℕ ReportFault → List (List ℕ) → Result EndWitness ReportFault
 witness_of_leaf (Err fault) ls = Err fault
 witness_of_leaf (Ok i) ls = witness_at i (drop i ls)
 
-abbrev pub unless_wrong : Option ℕ → Option ℕ → List (List ℕ) → Result Witness ReportFault
+abbrev pub unless_wrong : Option ℕ → Option ℕ → List (List ℕ) → Result EndWitness ReportFault
 unless_wrong (Some i) leaf ls = Err (BadLine i)
 unless_wrong None leaf ls = witness_of_leaf (leaf_wanted leaf ls) ls
 
@@ -192,7 +192,7 @@ is_filled l = not (is_none (line_of l))
 abbrev pub are_two : List (List ℕ) → Bool
 are_two ls = nat_le (length (filter is_filled ls)) 2
 
-abbrev pub as_two : Result Witness ℕ → Result Witness ReportFault
+abbrev pub as_two : Result EndWitness ℕ → Result EndWitness ReportFault
 as_two (Ok x) = Ok x
 as_two (Err n) = Err (BadLine n)
 
@@ -203,17 +203,17 @@ are_alone (Some n) ls = false
 
 -- Where no leaf is asked for, two lines alone are a witness, whatever stands before the first's word and the second's colon. Else the text
 -- is a report, no line of which may be wrong, and the witness is the only one that it has, or that of the leaf of this number.
-abbrev pub witness_in_report : Option ℕ → List (List ℕ) → Result Witness ReportFault
+abbrev pub witness_in_report : Option ℕ → List (List ℕ) → Result EndWitness ReportFault
 witness_in_report leaf ls = if are_alone leaf ls then as_two (witness_in ls) else unless_wrong (wrong_line 1 None ls) leaf ls
 
 -- the same of a text
-abbrev pub witness_of_report : Option ℕ → List ℕ → Result Witness ReportFault
+abbrev pub witness_of_report : Option ℕ → List ℕ → Result EndWitness ReportFault
 witness_of_report leaf z = witness_in_report leaf (parts_at 10 z)
 
 -- ---- what is answered
 
 -- what was read of a report, where memory was not refused
-abbrev pub ReadsReport : Result Witness ReportFault → Result Witness ReportFault → Type 0
+abbrev pub ReadsReport : Result EndWitness ReportFault → Result EndWitness ReportFault → Type 0
 ReadsReport read (Ok x) = read ≡ Ok x
 ReadsReport read (Err (BadLine n)) = read ≡ Err (BadLine n)
 ReadsReport read (Err NoWitness) = read ≡ Err NoWitness

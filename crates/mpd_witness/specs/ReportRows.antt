@@ -7,22 +7,22 @@ use Rattle.mpd_model.specs.declared.step.Step.TheVariants.{Local, Wake}
 use Rattle.mpd_model.specs.steps.World.{call_id}
 use Rattle.mpd_explore.specs.declared.report.RankTrap.{RankTrap}
 use Rattle.mpd_explore.specs.declared.report.WitnessEnd.TheVariants as end_is
-use Rattle.mpd_explore.specs.declared.report.Witness.{Witness}
+use Rattle.mpd_explore.specs.declared.report.EndWitness.{EndWitness}
 use Rattle.mpd_witness.specs.declared.report_text.ReportFault.{ReportFault}
 use Rattle.mpd_witness.specs.declared.report_text.ReportFault.TheVariants.{BadLine, NoWitness, SeveralWitnesses, NoSuchLeaf, NoDeadlock}
 use Rattle.mpd_witness.specs.declared.report_lines.LineKind.TheVariants.{Passed, OfLeaf, OfWitness, Wrong}
 use Rattle.mpd_witness.specs.ReadBack.{kind_of, witness_of_report}
 
-abbrev read : List Step → List CallId → Result Witness ReportFault
+abbrev read : List Step → List CallId → Result EndWitness ReportFault
 read steps blocked = Ok (record { steps = steps; end = end_is.Deadlock blocked })
 
-abbrev read_traps : List Step → List RankTrap → Result Witness ReportFault
+abbrev read_traps : List Step → List RankTrap → Result EndWitness ReportFault
 read_traps steps ranks = Ok (record { steps = steps; end = end_is.Trap ranks })
 
-abbrev refused : ReportFault → Result Witness ReportFault
+abbrev refused : ReportFault → Result EndWitness ReportFault
 refused fault = Err fault
 
-abbrev wrong : ℕ → Result Witness ReportFault
+abbrev wrong : ℕ → Result EndWitness ReportFault
 wrong n = Err (BadLine n)
 
 -- ---- what a line is
@@ -43,7 +43,7 @@ row_wrong = refl
 
 -- ---- two lines alone, as ever
 
-abbrev alone : List ℕ → Result Witness ReportFault
+abbrev alone : List ℕ → Result EndWitness ReportFault
 alone z = witness_of_report None z
 
 pub row_two : map alone (
@@ -65,10 +65,10 @@ one = codes "leaf 0 [0] done\nleaf 1 [1] deadlock 0.1 1.0\nwitness 1: local 0, w
 abbrev two : List ℕ
 two = codes "leaf 0 [0] deadlock 1.0\r\nwitness 0: local 1\r\nleaf 1 [1] deadlock 0.1\r\nwitness 1: local 0\r\nleaf 2 [2] deadlock 0.1\r\nleaves 3 more yes\r\n"
 
-abbrev first_of_two : Result Witness ReportFault
+abbrev first_of_two : Result EndWitness ReportFault
 first_of_two = read (Local 1 ∷ []) (call_id 1 0 ∷ [])
 
-abbrev second_of_two : Result Witness ReportFault
+abbrev second_of_two : Result EndWitness ReportFault
 second_of_two = read (Local 0 ∷ []) (call_id 0 1 ∷ [])
 
 -- the ways to end in the place of leaves

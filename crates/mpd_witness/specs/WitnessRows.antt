@@ -8,22 +8,22 @@ use Rattle.mpd_model.specs.declared.step.Step.TheVariants.{Local, Match, Wake, W
 use Rattle.mpd_model.specs.steps.World.{call_id}
 use Rattle.mpd_explore.specs.declared.report.RankTrap.{RankTrap}
 use Rattle.mpd_explore.specs.declared.report.WitnessEnd.TheVariants as end_is
-use Rattle.mpd_explore.specs.declared.report.Witness.{Witness}
+use Rattle.mpd_explore.specs.declared.report.EndWitness.{EndWitness}
 use Rattle.mpd_witness.specs.WitnessText.{witness_of}
 
-abbrev read : List Step → List CallId → Result Witness ℕ
+abbrev read : List Step → List CallId → Result EndWitness ℕ
 read steps blocked = Ok (record { steps = steps; end = end_is.Deadlock blocked })
 
 abbrev trapped : ℕ → Trap → RankTrap
 trapped p t = record { rank = p; trap = t }
 
-abbrev read_traps : List Step → List RankTrap → Result Witness ℕ
+abbrev read_traps : List Step → List RankTrap → Result EndWitness ℕ
 read_traps steps ranks = Ok (record { steps = steps; end = end_is.Trap ranks })
 
-abbrev wrong : ℕ → Result Witness ℕ
+abbrev wrong : ℕ → Result EndWitness ℕ
 wrong n = Err n
 
-abbrev short : Result Witness ℕ
+abbrev short : Result EndWitness ℕ
 short = read (Local 0 ∷ Wake 1 ∷ []) (call_id 0 1 ∷ [])
 
 -- what `check` writes, and the same without what may be left out

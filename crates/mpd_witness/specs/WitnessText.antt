@@ -10,7 +10,7 @@ use Rattle.mpd_model.specs.texts.Words.{number_of, call_of, step_of}
 use Rattle.mpd_explore.specs.declared.report.RankTrap.{RankTrap}
 use Rattle.mpd_explore.specs.declared.report.WitnessEnd.{WitnessEnd}
 use Rattle.mpd_explore.specs.declared.report.WitnessEnd.TheVariants as end_is
-use Rattle.mpd_explore.specs.declared.report.Witness.{Witness}
+use Rattle.mpd_explore.specs.declared.report.EndWitness.{EndWitness}
 use Rattle.mpd_witness.specs.declared.witness_text.WitnessTextFault.{WitnessTextFault}
 use Rattle.mpd_witness.specs.declared.witness_text.WitnessTextFault.TheVariants.{BadLine, Memory}
 
@@ -102,21 +102,21 @@ abbrev pub all_empty : List (List ℕ) → Bool
 all_empty ls = list_all (λ l. is_none (line_of l)) ls
 
 -- The witness, or the line that is wrong. Behind the second line stand empty ones alone.
-abbrev pub with_steps : WitnessEnd → Option (List Step) → Bool → Result Witness ℕ
+abbrev pub with_steps : WitnessEnd → Option (List Step) → Bool → Result EndWitness ℕ
 with_steps end None over = Err 2
 with_steps end (Some steps) false = Err 2
 with_steps end (Some steps) true = Ok (record { steps = steps; end = end })
 
-abbrev pub with_end : Option WitnessEnd → List (List ℕ) → Result Witness ℕ
+abbrev pub with_end : Option WitnessEnd → List (List ℕ) → Result EndWitness ℕ
 with_end None ls = Err 1
 with_end (Some end) [] = Err 2
 with_end (Some end) (l ∷ ls) = with_steps end (steps_of (line_of l)) (all_empty ls)
 
-abbrev pub witness_in : List (List ℕ) → Result Witness ℕ
+abbrev pub witness_in : List (List ℕ) → Result EndWitness ℕ
 witness_in [] = Err 1
 witness_in (l ∷ ls) = with_end (end_read (line_of l)) ls
 
-abbrev pub witness_of : List ℕ → Result Witness ℕ
+abbrev pub witness_of : List ℕ → Result EndWitness ℕ
 witness_of z = witness_in (parts_at 10 z)
 
 -- ---- what is answered
@@ -138,7 +138,7 @@ ReadsLine n read (Err (BadLine k)) = (read ≡ None) × (k ≡ n)
 ReadsLine n read (Err Memory) = Unit {0}
 
 -- what was read of a text
-abbrev pub ReadsText : Result Witness ℕ → Result Witness WitnessTextFault → Type 0
+abbrev pub ReadsText : Result EndWitness ℕ → Result EndWitness WitnessTextFault → Type 0
 ReadsText read (Ok x) = read ≡ Ok x
 ReadsText read (Err (BadLine n)) = read ≡ Err n
 ReadsText read (Err Memory) = Unit {0}

@@ -7,9 +7,9 @@ ghost use Rattle.mpd_witness.specs.Verdict.{accepted_line, place_part, refused_l
 use itoa::Buffer;
 use mpd_code::Code;
 use mpd_core::Core;
-use mpd_explore::{Witness, WitnessFault, verify_from};
-use mpd_lines::{EngineFault, Sink, Verdict, push_all, write_all};
-use mpd_model::Mode;
+use mpd_explore::{EndWitness, WitnessFault, verify_from};
+use mpd_lines::{EngineFault, Verdict, push_all, write_all};
+use mpd_model::{Mode, Sink};
 use std::alloc::{AllocError, Global};
 
 /// Room for the line of any verdict.
@@ -66,7 +66,7 @@ fn accept(line: &mut Vec<u8>) -> Verdict
 fn verdict_from(
     alloc: Global,
     core: &mut Core<'_>,
-    witness: &Witness,
+    witness: &EndWitness,
     line: &mut Vec<u8>,
 ) -> Result<Verdict, AllocError>
     requires empty { line.old.items ≡ [] }
@@ -88,7 +88,7 @@ fn verdict_at_start(
     alloc: Global,
     code: &Code,
     mode: Mode,
-    witness: &Witness,
+    witness: &EndWitness,
     line: &mut Vec<u8>,
 ) -> Result<Verdict, AllocError>
     requires empty { line.old.items ≡ [] }
@@ -109,7 +109,7 @@ pub fn judge<W: Sink>(
     alloc: Global,
     code: &Code,
     mode: Mode,
-    witness: &Witness,
+    witness: &EndWitness,
     sink: &mut W,
 ) -> Result<Verdict, EngineFault>
     ensures { Judged code.now.program mode witness.now (W.seen sink.old) (W.seen sink.new) result }

@@ -3,8 +3,9 @@
 ghost use Rattle.mpd_witness.specs.ReportFile.{IsFromReport};
 
 use crate::report_text::{ReportFault, read_report};
-use mpd_explore::Witness;
-use mpd_lines::{Source, read_up_to};
+use mpd_explore::EndWitness;
+use mpd_lines::read_up_to;
+use mpd_model::Source;
 use std::alloc::Global;
 
 /// Bytes of a text with a witness: that of a run of 1,000,000 steps fits.
@@ -17,7 +18,7 @@ pub fn read_report_witness<S: Source>(
     alloc: Global,
     source: &mut S,
     leaf: Option<usize>,
-) -> Result<Witness, ReportFault>
+) -> Result<EndWitness, ReportFault>
     ensures { IsFromReport leaf (S.seen source.old) (S.seen source.new) result }
 {
     let text = match read_up_to(alloc, source, WITNESS_MAX) {

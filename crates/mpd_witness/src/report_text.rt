@@ -10,7 +10,7 @@ ghost use Rattle.mpd_witness.specs.ReadBack.{with_both};
 use crate::pieces::Pieces;
 use crate::report_lines::{are_two, is_witness, next_leaf, next_witness, wrong_line};
 use crate::witness_text::{WitnessTextFault, pieces_behind, read_end, read_steps, read_witness};
-use mpd_explore::Witness;
+use mpd_explore::EndWitness;
 use mpd_lines::EngineFault;
 use mpd_model::without_return;
 use std::alloc::Global;
@@ -140,7 +140,7 @@ fn read_both(
     place: usize,
     leaf: &[u8],
     witness: &[u8],
-) -> Result<Witness, ReportFault>
+) -> Result<EndWitness, ReportFault>
     requires { place + 2 < 2 ^ 64 }
     ensures { ReadsReport (with_both place (end_read (line_of leaf.now)) (steps_of (line_of witness.now))) result }
 {
@@ -150,7 +150,7 @@ fn read_both(
         Err(WitnessTextFault::Memory) => return Err(ReportFault::Engine(EngineFault::Memory)),
     };
     match read_steps(alloc, without_return(witness)) {
-        Ok(steps) => Ok(Witness { steps, end }),
+        Ok(steps) => Ok(EndWitness { steps, end }),
         Err(fault) => {
             drop(end);
             Err(match fault {
@@ -163,7 +163,7 @@ fn read_both(
 
 /// Reads the witness of the leaf that has a place.
 #[tactic(auto, using(crate::proofs::ReportLemmas::joining))]
-fn witness_at(alloc: Global, text: &[u8], place: usize) -> Result<Witness, ReportFault>
+fn witness_at(alloc: Global, text: &[u8], place: usize) -> Result<EndWitness, ReportFault>
     requires { place < length (parts_at 10 text.now) }
     ensures { ReadsReport (witness_at place (drop place (parts_at 10 text.now))) result }
 {
@@ -190,7 +190,7 @@ fn are_alone(text: &[u8], leaf: Option<usize>) -> bool
 
 /// Reads a witness of two lines.
 #[tactic(auto, using(crate::proofs::ReportLemmas::reporting))]
-fn read_two(alloc: Global, text: &[u8]) -> Result<Witness, ReportFault>
+fn read_two(alloc: Global, text: &[u8]) -> Result<EndWitness, ReportFault>
     ensures { ReadsReport (as_two (witness_of text.now)) result }
 {
     match read_witness(alloc, text) {
@@ -206,7 +206,11 @@ fn read_two(alloc: Global, text: &[u8]) -> Result<Witness, ReportFault>
 /// witness, or no single one, or no such leaf, or that it is neither a deadlock nor a trap.
 /// `Memory` means that memory was refused.
 #[tactic(auto, using(crate::proofs::ReportLemmas::reporting))]
-pub fn read_report(alloc: Global, text: &[u8], leaf: Option<usize>) -> Result<Witness, ReportFault>
+pub fn read_report(
+    alloc: Global,
+    text: &[u8],
+    leaf: Option<usize>,
+) -> Result<EndWitness, ReportFault>
     ensures { ReadsReport (witness_of_report leaf text.now) result }
 {
     if are_alone(text, leaf) {

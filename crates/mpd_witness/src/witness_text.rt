@@ -7,7 +7,7 @@ ghost use Rattle.mpd_witness.specs.FaultTexts.{text_fault_shown};
 ghost use Rattle.mpd_witness.specs.WitnessText.{parts_at, behind_word, trap_of, rank_trap_of, pairs_read, each_read, some_of, end_read, behind_cut, cut_at, steps_of, all_empty, witness_of, Skipped, PairRead, ReadsLine, ReadsText};
 
 use crate::pieces::{Pieces, cut};
-use mpd_explore::{RankTrap, RankTrapList, Witness, WitnessEnd};
+use mpd_explore::{EndWitness, RankTrap, RankTrapList, WitnessEnd};
 use mpd_model::{
     CallList, Step, StepList, TraceWord, Trap, call_of, number_of, trace_word_of, without_return,
 };
@@ -251,7 +251,7 @@ fn are_empty(lines: &mut Pieces<'_>) -> bool
 /// Reads a witness from its text, as `check` writes it (docs/FORMATS.md, "Witnesses"). `BadLine`
 /// has the first line that is wrong, 1 or 2; `Memory` means that memory was refused.
 #[tactic(auto, using(crate::proofs::TextLemmas::reading))]
-pub fn read_witness(alloc: Global, text: &[u8]) -> Result<Witness, WitnessTextFault>
+pub fn read_witness(alloc: Global, text: &[u8]) -> Result<EndWitness, WitnessTextFault>
     ensures { ReadsText (witness_of text.now) result }
 {
     let mut lines = Pieces::new(text, b'\n');
@@ -266,5 +266,5 @@ pub fn read_witness(alloc: Global, text: &[u8]) -> Result<Witness, WitnessTextFa
     if !are_empty(&mut lines) {
         return Err(WitnessTextFault::BadLine(2));
     }
-    Ok(Witness { steps, end })
+    Ok(EndWitness { steps, end })
 }

@@ -5,8 +5,8 @@ ghost use Rattle.mpd_trace.specs.Ranks.{AreRanks};
 use crate::notes::Noted;
 use crate::tell::Fault;
 use mpd_c::write_c;
-use mpd_lines::{EngineFault, FromReader, Sink};
-use mpd_model::Script;
+use mpd_lines::EngineFault;
+use mpd_model::{FromReader, Script, Sink};
 use mpd_trace::{PlainFault, read_script_for};
 use std::fs::{File, Files};
 

@@ -1,21 +1,23 @@
 //! `mpdbg check`: a script explored by workers, a piece of it alone, or how many pieces there are.
 
-ghost use Rattle.std.specs.Prelude.{◌≡◌, ◌≤◌};
+ghost use Rattle.std.specs.Prelude.{◌≡◌, ◌≤◌, if◌then◌else◌};
+ghost use Rattle.mpd_options.specs.Clashes.{wants_traps};
 
 use crate::progress::{OfPiece, Progress};
 use crate::summary::{Limit, Made, say_counts, say_least, say_part, say_states, say_tally};
 use crate::tell::Fault;
 use mpd_check::{
-    CheckFault, CheckPlan, Crew, OutcomesPlan, SamplePlan, Tally, Telling, Tried, Wanted, check,
-    check_listing, check_mode, check_mode_outcomes, check_outcomes, check_piece, check_sample,
-    count_pieces, is_crew, put_least,
+    CheckFault, OutcomesPlan, SamplePlan, Tally, Telling, Tried, Wanted, check, check_listing,
+    check_mode, check_mode_outcomes, check_outcomes, check_piece, check_sample, count_pieces,
+    is_crew, put_least,
 };
 use mpd_code::{Code, Subject};
-use mpd_explore::Limits;
-use mpd_lines::{Sink, Verdict};
-use mpd_model::{Mode, RUNS_MAX, STEPS_MAX};
+use mpd_explore::{SearchLimits, Witnesses};
+use mpd_lines::Verdict;
+use mpd_model::{Mode, RUNS_MAX, STEPS_MAX, Sink};
 use mpd_options::{CheckOptions, Clash};
 use mpd_outcomes::{Goal, StateLimits};
+use mpd_pool::{Crew, SearchPlan};
 use std::marker::Sync;
 use std::rt::Clock;
 use std::thread::Threads;
@@ -72,16 +74,30 @@ fn part_of(options: CheckOptions) -> Part {
     }
 }
 
+/// Of which leaves the witnesses are wanted: of none unless they are asked for, and of deadlocks
+/// alone unless something else asks for those of traps.
+fn witnesses_of(options: CheckOptions) -> Witnesses
+    ensures { result ≡ (if options.witness then (if wants_traps options then Witnesses.OfAll else Witnesses.OfDeadlocks) else Witnesses.OfNone) }
+{
+    if !options.witness {
+        return Witnesses::OfNone;
+    }
+    if options.wants_traps() {
+        return Witnesses::OfAll;
+    }
+    Witnesses::OfDeadlocks
+}
+
 /// What is asked of the report.
-fn plan_of(options: CheckOptions) -> CheckPlan
+fn plan_of(options: CheckOptions) -> SearchPlan
     ensures { result.limits.fuel ≡ options.fuel }
 {
-    CheckPlan {
+    SearchPlan {
         split: options.split,
-        limits: Limits {
+        limits: SearchLimits {
             runs: options.runs,
             fuel: options.fuel,
-            witnesses: options.witness,
+            witnesses: witnesses_of(options),
             until_bad: options.until_bad,
             ends: options.ends,
         },
@@ -94,10 +110,10 @@ fn sample_plan_of(options: CheckOptions, runs: usize) -> SamplePlan
 {
     SamplePlan {
         seed: options.seed.unwrap_or(0),
-        limits: Limits {
+        limits: SearchLimits {
             runs,
             fuel: options.fuel,
-            witnesses: options.witness,
+            witnesses: witnesses_of(options),
             until_bad: options.until_bad,
             ends: false,
         },
@@ -118,7 +134,7 @@ fn goal_of(options: CheckOptions) -> Option<Goal> {
 }
 
 /// How far the search for ways to end goes, with the texts of witnesses or without.
-fn state_limits_of(options: CheckOptions, witnesses: bool) -> StateLimits
+fn state_limits_of(options: CheckOptions, witnesses: Witnesses) -> StateLimits
     ensures { result.fuel ≡ options.fuel }
 {
     StateLimits {
@@ -135,7 +151,7 @@ fn outcomes_plan_of(options: CheckOptions, text: &[u8]) -> OutcomesPlan<'_>
     ensures { result.limits.fuel ≡ options.fuel }
 {
     OutcomesPlan {
-        limits: state_limits_of(options, options.witness),
+        limits: state_limits_of(options, witnesses_of(options)),
         explain: options.explain,
         script: text,
     }
@@ -169,6 +185,7 @@ pub(crate) fn fit_together<'a>(options: CheckOptions) -> Result<(), Fault<'a>> {
         Some(Clash::Both(one, other)) => Err(Fault::Clash(one.word(), other.word())),
         Some(Clash::SeedAlone) => Err(Fault::SeedAlone),
         Some(Clash::StatesAlone) => Err(Fault::StatesAlone),
+        Some(Clash::TrapsAlone) => Err(Fault::TrapsAlone),
     }
 }
 
@@ -348,7 +365,12 @@ fn tally_in_mode<R: Clock + Eprint + Threads + Sync + AllocGlobal, W: Sink>(
 {
     let alloc = rt.alloc();
     if options.outcomes {
-        return match check_mode_outcomes(alloc, subject, state_limits_of(options, false), sink) {
+        return match check_mode_outcomes(
+            alloc,
+            subject,
+            state_limits_of(options, Witnesses::OfNone),
+            sink,
+        ) {
             Ok(found) => Ok(found.tally),
             Err(fault) => Err(CheckFault::Engine(fault)),
         };

@@ -7,7 +7,7 @@ use mpd_adapter::AdapterDesk;
 use mpd_code::Subject;
 use mpd_console::{Look, Opened, Screen};
 use mpd_frames::{StreamFault, run};
-use mpd_lines::{Sink, Source};
+use mpd_model::{Sink, Source};
 
 /// How answers of the console look in frames: without prompts and echo, in lines of up to 1,000 bytes.
 const FRAMED: Look = Look {

@@ -13,9 +13,9 @@ use mpd_console::{
     Wish, ended_words, keep, open, open_along, open_with, refused_again, reopen, run_console,
     source_refused, source_taken,
 };
-use mpd_explore::Witness;
-use mpd_lines::{EngineFault, Sink, Source, write_all};
-use mpd_model::{Mode, READS_MAX};
+use mpd_explore::EndWitness;
+use mpd_lines::{EngineFault, write_all};
+use mpd_model::{Mode, READS_MAX, Sink, Source};
 use mpd_runs::FUEL;
 use mpd_trace::PlainFault;
 use mpd_view::{Size, ViewDesk};
@@ -30,7 +30,7 @@ pub(crate) enum Ahead<'a> {
     /// The steps of the run with the choices of a word.
     Choices(NamedChoices<'a>),
     /// Those of a witness, which is checked first.
-    Witness(Witness),
+    Witness(EndWitness),
 }
 
 /// How a console is shown: how its answers look, and how many rows a view has, where one is drawn.
@@ -78,7 +78,7 @@ fn console_with<'c, 't, 'a>(
     alloc: Global,
     subject: Subject<'c>,
     screen: Screen<'t>,
-    witness: Option<Witness>,
+    witness: Option<EndWitness>,
 ) -> Result<Opened<'c, 't>, Fault<'a>> {
     let opened = match witness {
         None => open(alloc, subject, screen),

@@ -10,8 +10,9 @@ use mpd_diagnose::{
     DiagnosisPlan, ScriptInModes, closing_of, diagnose, diagnose_mode, full_command, modes_up_to,
     ranks_line, verdict_of, worst_of,
 };
-use mpd_lines::{EngineFault, Sink, Verdict, write_all};
-use mpd_model::{Mode, STEPS_MAX};
+use mpd_explore::Witnesses;
+use mpd_lines::{EngineFault, Verdict, write_all};
+use mpd_model::{Mode, STEPS_MAX, Sink};
 use mpd_outcomes::StateLimits;
 use mpd_runs::{FUEL, STATES_KEPT, STATES_VISITED};
 use mpd_trace::{RankSpan, code_of_text};
@@ -41,7 +42,7 @@ fn plan_of(script: ToldScript<'_>) -> DiagnosisPlan<'_>
             fuel: FUEL,
             kept: STATES_KEPT,
             visited: VISITED_MAX,
-            witnesses: false,
+            witnesses: Witnesses::OfNone,
             until: None,
         },
         blamed: STATES_VISITED,

@@ -6,15 +6,15 @@ use crate::diagnose::said_of;
 use crate::picture::{Asked, steps_of_asked};
 use crate::tell::Fault;
 use mpd_code::{Code, Subject};
-use mpd_core::Debugger;
-use mpd_explore::{Leaf, Limits, Report, Unwatched, explore};
-use mpd_lines::{EngineFault, Sink, write_all};
-use mpd_model::{Mode, STEPS_MAX, StepList, bare_line, cut_line};
+use mpd_explore::{SearchLeaf, SearchLimits, SearchReport, Unwatched, Witnesses, explore_watched};
+use mpd_lines::{EngineFault, write_all};
+use mpd_model::{Mode, STEPS_MAX, Sink, StepList, bare_line, cut_line};
 use mpd_options::PageOptions;
 use mpd_outcomes::{Count, Goal, Outcomes, StateLimits, explore_outcomes};
 use mpd_page::{PageFault, Title, Walk, make_page};
 use mpd_policy::{Ending, Plain, Wide};
 use mpd_runs::{WordsFault, steps_by_choices};
+use mpd_trail::Debugger;
 use std::alloc::{AllocError, Global};
 
 /// Before a line that goes on one before it.
@@ -129,7 +129,7 @@ fn add_leaf<'a>(
     alloc: Global,
     subject: Subject<'_>,
     runs: &mut Vec<StepList>,
-    leaf: &Leaf,
+    leaf: &SearchLeaf,
     wide: bool,
     fuel: usize,
 ) -> Result<(), Fault<'a>>
@@ -144,7 +144,7 @@ fn add_leaf<'a>(
 fn runs_of<'a>(
     alloc: Global,
     subject: Subject<'_>,
-    leaves: &[Leaf],
+    leaves: &[SearchLeaf],
     wide: bool,
     fuel: usize,
 ) -> Result<Vec<StepList>, Fault<'a>>
@@ -163,18 +163,22 @@ fn walk_of(wide: bool) -> Walk {
 }
 
 /// Whether one of the runs of some leaves is cut: it goes on, and so there are more runs.
-fn any_cut(leaves: &[Leaf]) -> bool {
+fn any_cut(leaves: &[SearchLeaf]) -> bool {
     leaves.iter().any(|leaf| matches!(leaf.ending, Ending::Cut))
 }
 
 /// The leaves of a check.
-fn report_of<'a>(alloc: Global, subject: Subject<'_>, limits: Limits) -> Result<Report, Fault<'a>>
+fn report_of<'a>(
+    alloc: Global,
+    subject: Subject<'_>,
+    limits: SearchLimits,
+) -> Result<SearchReport, Fault<'a>>
     requires { limits.fuel ≤ STEPS_MAX }
 {
     let Ok(mut debugger) = Debugger::start(alloc, subject.code, subject.mode) else {
         return Err(Fault::from(EngineFault::Memory));
     };
-    let report = explore(alloc, &mut debugger, limits, &mut Unwatched);
+    let report = explore_watched(alloc, &mut debugger, limits, &mut Unwatched);
     drop(debugger);
     match report {
         Ok(report) => Ok(report),
@@ -192,10 +196,10 @@ fn first_runs<'a>(
 ) -> Result<(Vec<StepList>, bool), Fault<'a>>
     requires { fuel ≤ STEPS_MAX }
 {
-    let limits = Limits {
+    let limits = SearchLimits {
         runs,
         fuel,
-        witnesses: false,
+        witnesses: Witnesses::OfNone,
         until_bad: false,
         ends,
     };
@@ -244,12 +248,12 @@ fn outcomes_of<'a>(
 }
 
 /// The place of the first leaf that ends so.
-fn first_that(leaves: &[Leaf], goal: Goal) -> Option<usize> {
+fn first_that(leaves: &[SearchLeaf], goal: Goal) -> Option<usize> {
     leaves.iter().position(|leaf| goal.is_met(&leaf.ending))
 }
 
 /// Which leaves are shown: the first that hangs or traps and the first that ends well, in their order, or else the first.
-fn chosen(leaves: &[Leaf]) -> (usize, Option<usize>) {
+fn chosen(leaves: &[SearchLeaf]) -> (usize, Option<usize>) {
     match (
         first_that(leaves, Goal::Bad),
         first_that(leaves, Goal::Well),
@@ -264,7 +268,7 @@ fn add_at<'a>(
     alloc: Global,
     subject: Subject<'_>,
     runs: &mut Vec<StepList>,
-    leaf: Option<&Leaf>,
+    leaf: Option<&SearchLeaf>,
     wide: bool,
     fuel: usize,
 ) -> Result<(), Fault<'a>>
@@ -280,7 +284,7 @@ fn add_at<'a>(
 fn chosen_runs<'a>(
     alloc: Global,
     subject: Subject<'_>,
-    leaves: &[Leaf],
+    leaves: &[SearchLeaf],
     wide: bool,
     fuel: usize,
 ) -> Result<Vec<StepList>, Fault<'a>>
@@ -355,7 +359,7 @@ fn both<'a>(alloc: Global, script: PageScript<'_>, ends: bool) -> Result<Found, 
         fuel,
         kept: script.states,
         visited: script.states,
-        witnesses: false,
+        witnesses: Witnesses::OfNone,
         until: None,
     };
     let outcomes = outcomes_of(alloc, subject, limits)?;

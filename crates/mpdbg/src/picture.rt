@@ -4,16 +4,16 @@ ghost use Rattle.std.specs.Prelude.{◌≤◌};
 
 use crate::tell::Fault;
 use mpd_code::Subject;
-use mpd_core::Debugger;
-use mpd_explore::{Witness, WitnessFault, verify};
-use mpd_lines::{EngineFault, Sink, write_all};
-use mpd_model::{STEPS_MAX, Step, StepList};
+use mpd_explore::{EndWitness, WitnessFault, verify_end};
+use mpd_lines::{EngineFault, write_all};
+use mpd_model::{STEPS_MAX, Sink, Step, StepList};
 use mpd_picture::{DrawFault, Look, draw};
 use mpd_policy::{Plain, Wide};
 use mpd_runs::{
     ChoicesFault, ReadFault, StepsFault, WordsFault, choices_of, lead_first, steps_by_choices,
     steps_of, take_steps,
 };
+use mpd_trail::Debugger;
 use std::alloc::Global;
 
 /// The choices of a run, as a word of the command line names them.
@@ -32,7 +32,7 @@ pub(crate) enum Asked<'a> {
     /// That of the choices of a word.
     Choices(NamedChoices<'a>),
     /// That of a witness, which is checked first.
-    Witness(Witness),
+    Witness(EndWitness),
     /// That of a text of trace words.
     Words(Vec<u8>),
 }
@@ -99,12 +99,12 @@ fn take_witness<'a>(
     alloc: Global,
     subject: Subject<'_>,
     debugger: &mut Debugger<'_>,
-    witness: &Witness,
+    witness: &EndWitness,
 ) -> Result<(), Fault<'a>> {
     if witness.steps.items.len() > STEPS_MAX {
         return Err(Fault::LongWitness);
     }
-    match verify(alloc, subject.code, subject.mode, witness) {
+    match verify_end(alloc, subject.code, subject.mode, witness) {
         Ok(()) => take_all(debugger, &witness.steps.items),
         Err(WitnessFault::Memory) => Err(Fault::from(EngineFault::Memory)),
         Err(fault) => Err(Fault::Witness(fault)),

@@ -1,7 +1,7 @@
 //! How far a check is, told to a person who waits at a terminal.
 
-use mpd_check::Gate;
 use mpd_explore::Watch;
+use mpd_pool::Gate;
 use std::io;
 use std::marker::Sync;
 use std::rt::Clock;

@@ -6,8 +6,8 @@ ghost use Rattle.mpd_trace.specs.Ranks.{AreRanks};
 use crate::notes::Noted;
 use crate::tell::Fault;
 use mpd_code::Code;
-use mpd_lines::{EngineFault, FromReader, read_up_to};
-use mpd_model::{Mode, mode_of};
+use mpd_lines::{EngineFault, read_up_to};
+use mpd_model::{FromReader, Mode, mode_of};
 use mpd_trace::{PlainFault, read_code_for};
 use std::fs::{File, Files};
 

@@ -1,13 +1,13 @@
 //! Why the program ends before its input does, and what a person is told of it (docs/FORMATS.md, "Faults and statuses").
 
 use crate::shown::{say_lines_shown, say_shown};
-use mpd_check::PoolFault;
 use mpd_explore::WitnessFault;
 use mpd_frames::StreamFault;
 use mpd_lines::EngineFault;
 use mpd_model::{FaultCode, RANKS_MAX, ReadFault, SLOTS_MAX};
 use mpd_options::UsageFault;
-use mpd_server::ServeFault;
+use mpd_pool::PoolFault;
+use mpd_server::HostFault;
 use mpd_trace::{PlainFault, allowed, excerpt, hint};
 use mpd_witness::{ReportFault, WITNESS_MAX};
 use std::alloc::AllocError;
@@ -49,6 +49,8 @@ pub(crate) enum Fault<'a> {
     SeedAlone,
     /// `--states` without `--outcomes`.
     StatesAlone,
+    /// `--traps` without `--witness`.
+    TrapsAlone,
     /// The word of `--choices`, which isn't numbers.
     NotChoices(&'a str),
     /// No run has these choices: the one at this place, from 0, is none, or so many were given, and the run wants more.
@@ -97,17 +99,17 @@ impl<'a> From<AllocError> for Fault<'a> {
     }
 }
 
-impl<'a> From<ServeFault> for Fault<'a> {
-    fn from(fault: ServeFault) -> Fault<'a> {
+impl<'a> From<HostFault> for Fault<'a> {
+    fn from(fault: HostFault) -> Fault<'a> {
         match fault {
-            ServeFault::Memory => Fault::from(EngineFault::Memory),
-            ServeFault::WriteFailed => Fault::from(EngineFault::WriteFailed),
-            ServeFault::NoPort(error) => Fault::Listener(error),
-            ServeFault::NotAccepted(error) => match error.kind() {
+            HostFault::Memory => Fault::from(EngineFault::Memory),
+            HostFault::WriteFailed => Fault::from(EngineFault::WriteFailed),
+            HostFault::NoPort(error) => Fault::Listener(error),
+            HostFault::NotAccepted(error) => match error.kind() {
                 ErrorKind::OutOfMemory => Fault::from(EngineFault::Memory),
                 _ => Fault::Listener(error),
             },
-            ServeFault::Settle(fault) => Fault::Settle(fault.number()),
+            HostFault::Settle(fault) => Fault::Settle(fault.number()),
         }
     }
 }
@@ -396,6 +398,10 @@ pub(crate) fn tell<R: Print + Eprint + AllocGlobal>(
         }
         Fault::StatesAlone => {
             let _unwritten = eprintln!(rt; "mpdbg: --states wants --outcomes");
+            WRONG
+        }
+        Fault::TrapsAlone => {
+            let _unwritten = eprintln!(rt; "mpdbg: --traps wants --witness");
             WRONG
         }
         Fault::NotChoices(word) => tell_choices(rt, word, notes.is_terminal),

@@ -3,9 +3,9 @@
 use crate::notes::Noted;
 use crate::tell::Fault;
 use mpd_code::Subject;
-use mpd_explore::{Witness, verify};
-use mpd_lines::{EngineFault, FromReader, Sink, Verdict};
-use mpd_model::Mode;
+use mpd_explore::{EndWitness, verify_end};
+use mpd_lines::{EngineFault, Verdict};
+use mpd_model::{FromReader, Mode, Sink};
 use mpd_witness::{ReportFault, judge, read_report_witness};
 use std::fs::{File, Files};
 use std::io;
@@ -21,7 +21,7 @@ pub(crate) struct NamedWitness<'a> {
 pub(crate) fn witness_of<'a, R: Files + AllocGlobal>(
     rt: &R,
     named: NamedWitness<'a>,
-) -> Result<Witness, Fault<'a>> {
+) -> Result<EndWitness, Fault<'a>> {
     let NamedWitness { file, leaf } = named;
     let mut reader = match File::open(rt, file) {
         Ok(opened) => Noted::new(opened),
@@ -44,13 +44,13 @@ pub(crate) fn witness_of<'a, R: Files + AllocGlobal>(
 fn say_other_modes<R: Eprint + AllocGlobal>(
     rt: &R,
     subject: Subject<'_>,
-    witness: &Witness,
+    witness: &EndWitness,
 ) -> io::Result<()> {
     for (other, name) in [
         (Mode::Rendezvous, "rendezvous"),
         (Mode::Buffered, "buffered"),
     ] {
-        if other != subject.mode && verify(rt.alloc(), subject.code, other, witness).is_ok() {
+        if other != subject.mode && verify_end(rt.alloc(), subject.code, other, witness).is_ok() {
             eprintln!(rt; "  accepted in mode {name} (--mode)")?;
         }
     }

@@ -1,4 +1,4 @@
-use Rattle.mpd_core.specs.DebuggerViews.{standing_of}
+use Rattle.mpd_trail.specs.DebuggerViews.{standing_of}
 use Rattle.mpd_blame.proofs.BackLemmas.{led_back}
 use Rattle.mpd_blame.proofs.back.step_back.Goals as goal
 

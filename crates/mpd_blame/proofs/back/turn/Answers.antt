@@ -2,7 +2,7 @@ use Rattle.std.proofs.Common.{◌≡◌, ◌≤◌, ◌+◌, ◌-◌, suc, true,
 use Rattle.mpd_model.specs.runs.Trail.{Trail, Standing, done_steps}
 use Rattle.mpd_outcomes.specs.Goals.{states_along}
 use Rattle.mpd_outcomes.specs.Outcomes.{leaves_from}
-use Rattle.mpd_core.specs.DebuggerViews.{standing_of}
+use Rattle.mpd_trail.specs.DebuggerViews.{standing_of}
 use Rattle.mpd_policy.specs.Wide.{wide_decision}
 use Rattle.mpd_blame.specs.declared.sight.Sight.{Sight}
 use Rattle.mpd_blame.specs.declared.sight.Sight.TheVariants as sight_is

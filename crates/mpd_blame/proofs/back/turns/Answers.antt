@@ -1,6 +1,6 @@
 use Rattle.std.proofs.Common.{◌≡◌, Option, ◌≤◌, ◌+◌, ◌-◌, suc, true, length, sym, ap, subst, ◌∙◌, arith}
 use Rattle.mpd_model.specs.runs.Trail.{Trail}
-use Rattle.mpd_core.specs.DebuggerViews.{standing_of}
+use Rattle.mpd_trail.specs.DebuggerViews.{standing_of}
 use Rattle.mpd_outcomes.specs.Outcomes.{leaves_from}
 use Rattle.mpd_outcomes.specs.Goals.{states_along}
 use Rattle.mpd_blame.specs.declared.back.Blame.{Blame}

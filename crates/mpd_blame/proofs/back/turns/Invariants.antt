@@ -1,5 +1,5 @@
 use Rattle.std.proofs.Common.{◌≡◌, ◌≤◌, ◌+◌, ◌-◌, suc, length}
-use Rattle.mpd_core.specs.DebuggerViews.{standing_of}
+use Rattle.mpd_trail.specs.DebuggerViews.{standing_of}
 use Rattle.mpd_blame.specs.Blame.{states_on, DoomedFrom, IsBack}
 use Rattle.mpd_blame.proofs.BackLemmas.{start_of}
 use Rattle.mpd_blame.proofs.back.turns.Given as goal

@@ -5,7 +5,7 @@ use Rattle.std.specs.Prelude.{IsSome}
 use Rattle.mpd_model.specs.runs.Trail.{done_steps}
 use Rattle.mpd_policy.specs.Wide.{wide_decision}
 use Rattle.mpd_policy.specs.Walk.{Run}
-use Rattle.mpd_explore.specs.declared.report.Leaf.{Leaf}
+use Rattle.mpd_explore.specs.declared.report.SearchLeaf.{SearchLeaf}
 use Rattle.mpd_explore.specs.Witness.{HasWitness}
 use Rattle.mpd_blame.specs.Blame.{ends_well, ends_badly}
 use Rattle.mpd_blame.proofs.ListLemmas.{found_has}
@@ -17,7 +17,7 @@ pub first_step-requires-clause-some : goal.first_step-requires-clause-some
 first_step-requires-clause-some c =
     let d = c.args.debugger.now in
     let items = c.args.outcomes.now.firsts.leaves.items in
-    let l : Leaf = c.in-Some.leaf.now in
+    let l : SearchLeaf = c.in-Some.leaf.now in
     let found : find ends_well items ≡ Some l = ap (find ends_well) (sym c.deref.ensures.value) ∙ sym c.first_well.ensures ∙ ap (option_map (λ r. r.now)) c.in-Some.is in
     let has = found_has ends_well (HasWitness wide_decision d.trail.program d.trail.mode (done_steps d.trail) c.args.limits.fuel d.world) items l found c.requires.witnesses in
     subst (λ (r : Option Run). IsSome r) (sym has.by) refl
@@ -26,7 +26,7 @@ pub returns-in-Some-clause-sees : goal.returns-in-Some-clause-sees
 returns-in-Some-clause-sees c =
     let d = c.args.debugger.now in
     let items = c.args.outcomes.now.firsts.leaves.items in
-    let l : Leaf = c.in-Some.leaf.now in
+    let l : SearchLeaf = c.in-Some.leaf.now in
     let found : find ends_well items ≡ Some l = ap (find ends_well) (sym c.deref.ensures.value) ∙ sym c.first_well.ensures ∙ ap (option_map (λ r. r.now)) c.in-Some.is in
     let has = found_has ends_well (HasWitness wide_decision d.trail.program d.trail.mode (done_steps d.trail) c.args.limits.fuel d.world) items l found c.requires.witnesses in
     sees_well c.args.limits.fuel d.world c.args.outcomes.now l c.in_ok-step.step c.requires.told.told found (subst (λ (r : Option Run). IsSome r) (sym has.by) refl) (sym c.in_ok-step.ensures.step)

@@ -1,6 +1,6 @@
 use Rattle.std.proofs.Common.{◌≡◌, List, ◌∷◌, [], ◌++◌, map, string_bytes, ℕ, subst, sym, ◌∙◌, take, ◌+◌}
 use Rattle.mpd_model.specs.runs.Trail.{Standing}
-use Rattle.mpd_core.specs.DebuggerViews.{standing_of}
+use Rattle.mpd_trail.specs.DebuggerViews.{standing_of}
 use Rattle.mpd_blame.specs.Told.{IsLine, AreBlamed}
 use Rattle.mpd_blame.proofs.ToldLemmas.{zipped_more, lines_more, standing_same}
 use Rattle.mpd_blame.proofs.told.blame_lines.Goals as goal

@@ -1,6 +1,6 @@
 use Rattle.std.proofs.Common.{◌≡◌, map, take, string_bytes}
 use Rattle.mpd_model.specs.runs.Trail.{IsReached}
-use Rattle.mpd_core.specs.DebuggerViews.{standing_of}
+use Rattle.mpd_trail.specs.DebuggerViews.{standing_of}
 use Rattle.mpd_blame.specs.Told.{AreBlamed}
 use Rattle.mpd_blame.proofs.told.blame_lines.Given as goal
 

@@ -1,6 +1,6 @@
 use Rattle.std.proofs.Common.{◌≤◌, ap, subst, sym, ◌∙◌}
 use Rattle.mpd_model.specs.runs.Trail.{Trail}
-use Rattle.mpd_core.specs.DebuggerViews.{standing_of}
+use Rattle.mpd_trail.specs.DebuggerViews.{standing_of}
 use Rattle.mpd_blame.proofs.BackLemmas.{begun_beyond, followed_few}
 use Rattle.mpd_blame.proofs.told.line_there.Goals as goal
 

@@ -1,8 +1,8 @@
 use Rattle.std.proofs.Common.{List, map, string_bytes, ap, subst, ◌∙◌}
 use Rattle.mpd_model.specs.runs.Trail.{Standing}
-use Rattle.mpd_core.specs.DebuggerViews.{standing_of}
+use Rattle.mpd_trail.specs.DebuggerViews.{standing_of}
 use Rattle.mpd_policy.specs.Wide.{wide_decision}
-use Rattle.mpd_explore.specs.declared.report.Leaf.{Leaf}
+use Rattle.mpd_explore.specs.declared.report.SearchLeaf.{SearchLeaf}
 use Rattle.mpd_explain.specs.Explanations.{explained_at}
 use Rattle.mpd_check.specs.Listing.{marked_if}
 use Rattle.mpd_check.specs.OutcomesText.{outcomes_text, AreDecided}
@@ -18,7 +18,7 @@ returns c =
     let then = same_standing c.lines_of.new.debugger c.explore_outcomes.new.debugger c.lines_of.ensures.as_found.trail c.lines_of.ensures.as_found.world in
     let lines = map string_bytes c.in_ok-lines.lines.items in
     let decided : AreDecided plan.explain plan.limits (standing_of c.args.debugger.now) leaves lines =
-    subst (λ (d : Standing). AreDecided plan.explain plan.limits d leaves lines) at (subst (λ (ls : List Leaf). AreDecided plan.explain plan.limits (standing_of c.explore_outcomes.new.debugger) ls lines) c.deref.ensures.value c.in_ok-lines.ensures.lines)
+    subst (λ (d : Standing). AreDecided plan.explain plan.limits d leaves lines) at (subst (λ (ls : List SearchLeaf). AreDecided plan.explain plan.limits (standing_of c.explore_outcomes.new.debugger) ls lines) c.deref.ensures.value c.in_ok-lines.ensures.lines)
     in
     let texts = ap (map string_bytes) c.deref-2.ensures.value ∙ c.in_ok-texts.ensures.texts ∙ ap (λ (d : Standing). explained_at wide_decision plan.explain plan.limits.fuel d leaves) (then ∙ at) in
     let lent = ap (map string_bytes) c.deref-3.ensures.value in (

@@ -1,5 +1,5 @@
 use Rattle.std.proofs.Common.{arith}
-use Rattle.mpd_core.specs.DebuggerViews.{standing_of}
+use Rattle.mpd_trail.specs.DebuggerViews.{standing_of}
 use Rattle.mpd_check.specs.Listing.{part_text}
 use Rattle.mpd_check.proofs.CheckLemmas.{piece_told, none_told, reached_number}
 use Rattle.mpd_check.proofs.part.tell_number.Goals as goal

@@ -1,7 +1,7 @@
 use Rattle.std.proofs.Common.{◌≡◌, List, ◌∷◌, [], ◌++◌, map, string_bytes, ℕ, get_or, subst, sym, ◌∙◌, take, ◌+◌}
 use Rattle.std.proofs.lemmas.List.{get_or_default}
 use Rattle.mpd_model.specs.runs.Trail.{Standing}
-use Rattle.mpd_core.specs.DebuggerViews.{standing_of}
+use Rattle.mpd_trail.specs.DebuggerViews.{standing_of}
 use Rattle.mpd_outcomes.specs.declared.report.Count.TheVariants.{Exactly}
 use Rattle.mpd_blame.proofs.ToldLemmas.{zipped_more, lines_more, standing_same}
 use Rattle.mpd_diagnose.specs.declared.groups.Group.{Group}

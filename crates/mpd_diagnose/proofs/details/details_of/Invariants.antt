@@ -1,6 +1,6 @@
 use Rattle.std.proofs.Common.{◌≡◌, map, take, string_bytes}
 use Rattle.mpd_model.specs.runs.Trail.{IsReached}
-use Rattle.mpd_core.specs.DebuggerViews.{standing_of}
+use Rattle.mpd_trail.specs.DebuggerViews.{standing_of}
 use Rattle.mpd_diagnose.specs.Details.{AreDetailed}
 use Rattle.mpd_diagnose.proofs.details.details_of.Given as goal
 

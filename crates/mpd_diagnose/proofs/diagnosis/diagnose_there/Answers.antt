@@ -1,6 +1,6 @@
 use Rattle.std.proofs.Common.{ℕ, Bool, List, [], ◌++◌, Some, None, refl, sym, ap, subst, ◌∙◌, append-nil}
 use Rattle.mpd_model.specs.runs.Trail.{Standing}
-use Rattle.mpd_core.specs.DebuggerViews.{standing_of}
+use Rattle.mpd_trail.specs.DebuggerViews.{standing_of}
 use Rattle.mpd_blame.proofs.ToldLemmas.{standing_same}
 use Rattle.mpd_diagnose.specs.Diagnosed.{IsDrawn, IsRest}
 use Rattle.mpd_diagnose.proofs.diagnosis.diagnose_there.Goals as goal

@@ -1,7 +1,7 @@
 use Rattle.std.proofs.Common.{◌≡◌, ℕ, List, codes, sym, subst, ◌∙◌}
 use Rattle.mpd_core.proofs.RangeLemmas.{if_ok}
 use Rattle.mpd_model.specs.runs.Trail.{Standing}
-use Rattle.mpd_core.specs.DebuggerViews.{standing_of}
+use Rattle.mpd_trail.specs.DebuggerViews.{standing_of}
 use Rattle.mpd_runs.specs.Counts.{told_counts}
 use Rattle.mpd_blame.proofs.ToldLemmas.{standing_same}
 use Rattle.mpd_diagnose.specs.Told.{drawn_opening}

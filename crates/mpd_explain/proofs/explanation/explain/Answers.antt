@@ -1,7 +1,7 @@
 use Rattle.std.proofs.Common.{◌∙◌, arith}
 use Rattle.mpd_core.proofs.RangeLemmas.{if_ok}
 use Rattle.mpd_model.specs.runs.Trail.{done_steps}
-use Rattle.mpd_core.specs.DebuggerViews.{standing_of}
+use Rattle.mpd_trail.specs.DebuggerViews.{standing_of}
 use Rattle.mpd_policy.specs.Walk.{run_by, steps_by}
 use Rattle.mpd_policy.proofs.WalkLemmas.{beyond_depth}
 use Rattle.mpd_explain.proofs.TellLemmas.{told_behind}

@@ -1,7 +1,7 @@
 use Rattle.std.proofs.Common.{◌≡◌, ◌++◌, map, drop, string_bytes}
 use Rattle.std.specs.List.{AllByRecursion}
 use Rattle.mpd_model.specs.runs.Trail.{done_steps, IsReached}
-use Rattle.mpd_core.specs.DebuggerViews.{standing_of}
+use Rattle.mpd_trail.specs.DebuggerViews.{standing_of}
 use Rattle.mpd_explore.specs.Witness.{HasWitness}
 use Rattle.mpd_explain.specs.Explanations.{explanations}
 use Rattle.mpd_explain.proofs.explanation.explain_all.Given as goal

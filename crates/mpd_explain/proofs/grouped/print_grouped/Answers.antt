@@ -1,14 +1,16 @@
 use Rattle.std.proofs.Common.{map, string_bytes, sym, ap, ◌∙◌}
 use Rattle.mpd_model.specs.runs.Trail.{done_steps}
-use Rattle.mpd_core.specs.DebuggerViews.{standing_of}
+use Rattle.mpd_trail.specs.DebuggerViews.{standing_of}
 use Rattle.mpd_explore.specs.Ends.{before, firsts}
 use Rattle.mpd_explore.specs.WitnessTexts.{witness_texts}
 use Rattle.mpd_explain.specs.Explanations.{explained_at}
+use Rattle.mpd_explain.specs.Behind.{behind_by}
 use Rattle.mpd_explain.specs.Told.{behind_leaf}
 use Rattle.mpd_explain.proofs.GroupLemmas.{grouped_told}
 use Rattle.mpd_explain.proofs.grouped.print_grouped.Goals as goal
 
 pub returns-clause-text : goal.returns-clause-text
+unfolding behind_by
 returns-clause-text g c =
     let leaves = c.args.report.now.leaves.items in
     let d = c.args.debugger.now in

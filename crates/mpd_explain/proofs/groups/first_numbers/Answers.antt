@@ -2,7 +2,7 @@ use Rattle.std.proofs.Common.{◌≡◌, ◌<◌, ◌≤◌, Bool, List, not, le
 use Rattle.std.specs.List.{list_any}
 use Rattle.std.proofs.lemmas.List.{take_all}
 use Rattle.std.proofs.lemmas.Option.{slice_get_read}
-use Rattle.mpd_explore.specs.declared.report.Leaf.{Leaf}
+use Rattle.mpd_explore.specs.declared.report.SearchLeaf.{SearchLeaf}
 use Rattle.mpd_explore.specs.Ends.{has_end, before, firsts}
 use Rattle.mpd_explain.specs.Grouped.{ends_so}
 use Rattle.mpd_explain.proofs.GroupLemmas.{finds_more, given_more}
@@ -10,10 +10,10 @@ use Rattle.mpd_explain.proofs.groups.first_numbers.Goals as goal
 
 pub loop-number-preserved : goal.loop-number-preserved
 loop-number-preserved c =
-    let leaves : List Leaf = c.args.leaves.now in
+    let leaves : List SearchLeaf = c.args.leaves.now in
     let n = c.loop-number.number in
     let numbers = c.loop-number.numbers.items in
-    let l : Leaf = c.index-leaves-number.result in
+    let l : SearchLeaf = c.index-leaves-number.result in
     let within : n < length leaves = (let test = c.loop-number-test.true in let end = c.loop-number.auto.number-end in omega (arith, test, end)) in
     let at : slice_get leaves n ≡ Some l = slice_get_read leaves (length leaves) n l refl within c.index-leaves-number.is in
     let b : Bool = not c.has_end-is_known.result in
@@ -26,4 +26,4 @@ loop-number-preserved c =
 pub returns : goal.returns
 returns c =
     let all : length c.args.leaves.now ≤ c.loop-number.number = (let test = c.loop-number-test.false in let end = c.loop-number.auto.number-end in omega (arith, test, end)) in
-    c.loop-number.invariant.given ∙ ap (λ (ls : List Leaf). map (before c.args.leaves.now) (firsts ls)) (take_all c.loop-number.number c.args.leaves.now all)
+    c.loop-number.invariant.given ∙ ap (λ (ls : List SearchLeaf). map (before c.args.leaves.now) (firsts ls)) (take_all c.loop-number.number c.args.leaves.now all)

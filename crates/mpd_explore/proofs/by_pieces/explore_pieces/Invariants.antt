@@ -1,6 +1,6 @@
 use Rattle.std.proofs.Common.{◌≡◌, true, false, take, map, string_bytes}
 use Rattle.mpd_model.specs.runs.Trail.{done_steps, IsReached}
-use Rattle.mpd_core.specs.DebuggerViews.{standing_of}
+use Rattle.mpd_trail.specs.DebuggerViews.{standing_of}
 use Rattle.mpd_explore.specs.Report.{any_bad}
 use Rattle.mpd_explore.specs.Sleeping.{decides_by}
 use Rattle.mpd_explore.specs.WitnessTexts.{witness_texts}

@@ -1,6 +1,6 @@
 use Rattle.std.proofs.Common.{◌≡◌, false, take}
 use Rattle.mpd_model.specs.runs.Trail.{IsReached}
-use Rattle.mpd_core.specs.DebuggerViews.{standing_of}
+use Rattle.mpd_trail.specs.DebuggerViews.{standing_of}
 use Rattle.mpd_explore.specs.Along.{have_run}
 use Rattle.mpd_explore.proofs.by_pieces.have_run.Given as goal
 

@@ -1,6 +1,6 @@
 use Rattle.std.proofs.Common.{ap, map, string_bytes, []}
-use Rattle.mpd_core.specs.Run.{first_of}
-use Rattle.mpd_core.specs.DebuggerViews.{standing_of}
+use Rattle.mpd_trail.specs.Run.{first_of}
+use Rattle.mpd_trail.specs.DebuggerViews.{standing_of}
 use Rattle.mpd_explore.specs.Search.{Search, search_by, come}
 use Rattle.mpd_explore.proofs.GatherLemmas.{is_some, lists_nothing}
 use Rattle.mpd_explore.proofs.explorer.find.Goals as goal

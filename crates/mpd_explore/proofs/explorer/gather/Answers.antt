@@ -1,9 +1,9 @@
 use Rattle.std.proofs.Common.{◌≡◌, ◌+◌, ◌≤◌, [], length, map, reverse, string_bytes, List, refl, sym, ap, subst, arith}
 use Rattle.mpd_model.specs.steps.World.{World}
-use Rattle.mpd_core.specs.Run.{first_of}
-use Rattle.mpd_core.specs.DebuggerViews.{standing_of}
+use Rattle.mpd_trail.specs.Run.{first_of}
+use Rattle.mpd_trail.specs.DebuggerViews.{standing_of}
 use Rattle.mpd_policy.specs.Walk.{Run}
-use Rattle.mpd_explore.specs.declared.report.Leaf.{Leaf}
+use Rattle.mpd_explore.specs.declared.report.SearchLeaf.{SearchLeaf}
 use Rattle.mpd_explore.specs.declared.search.Open.{Open}
 use Rattle.mpd_explore.specs.Report.{any_bad}
 use Rattle.mpd_explore.specs.Search.{Search, search_by, At, come, after}
@@ -55,7 +55,7 @@ returns-then-not-has_next-clause-lists g c =
     let e = standing_of c.advance.new.debugger in
     let gs : List Open = reverse c.next_leaf.new.frontier.stack.items in
     let hs : List Open = reverse c.advance.new.frontier.stack.items in
-    let x : Leaf = c.in-Some.leaf in
+    let x : SearchLeaf = c.in-Some.leaf in
     let l = leaf_found s (by (first_of d.trail)) fs gs f.asleep d m _ x (ap by i.at.first_is) c.in-Some.is c.in_ok-leaf.ensures.found in
     let own : by (first_of m.trail) ≡ s = ap by l.0.first_is in
     let none : after s gs m ≡ [] = goes_nowhere s (by (first_of m.trail)) gs hs c.advance.new.frontier.asleep m e c.in_ok-has_next.has_next own c.if-not-has_next.true c.in_ok-has_next.ensures.advanced in
@@ -79,7 +79,7 @@ returns-then-is_last-clause-lists g c =
     let gs : List Open = reverse c.next_leaf.new.frontier.stack.items in
     let h = c.advance.new.frontier in
     let hs : List Open = reverse h.stack.items in
-    let x : Leaf = c.in-Some.leaf in
+    let x : SearchLeaf = c.in-Some.leaf in
     let l = leaf_found s (by (first_of d.trail)) fs gs f.asleep d m _ x (ap by i.at.first_is) c.in-Some.is c.in_ok-leaf.ensures.found in
     let own : by (first_of m.trail) ≡ s = ap by l.0.first_is in
     let rest : List Run = come s hs h.asleep e in
@@ -105,7 +105,7 @@ loop-turn-preserved g c =
     let gs : List Open = reverse c.next_leaf.new.frontier.stack.items in
     let h = c.advance.new.frontier in
     let hs : List Open = reverse h.stack.items in
-    let x : Leaf = c.in-Some.leaf in
+    let x : SearchLeaf = c.in-Some.leaf in
     let l = leaf_found s (by (first_of d.trail)) fs gs f.asleep d m _ x (ap by i.at.first_is) c.in-Some.is c.in_ok-leaf.ensures.found in
     let own : by (first_of m.trail) ≡ s = ap by l.0.first_is in
     let on = goes_on s (by (first_of m.trail)) gs hs h.asleep m e c.in_ok-has_next.has_next own c.if-not-has_next.false c.in_ok-has_next.ensures.advanced in

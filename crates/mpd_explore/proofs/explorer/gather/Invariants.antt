@@ -1,6 +1,6 @@
 use Rattle.std.proofs.Common.{◌≡◌, [], true, false, length, map, reverse, string_bytes}
-use Rattle.mpd_core.specs.Run.{first_of}
-use Rattle.mpd_core.specs.DebuggerViews.{standing_of}
+use Rattle.mpd_trail.specs.Run.{first_of}
+use Rattle.mpd_trail.specs.DebuggerViews.{standing_of}
 use Rattle.mpd_explore.specs.Search.{Safe, At, search_by, come}
 use Rattle.mpd_explore.specs.Report.{any_bad}
 use Rattle.mpd_explore.specs.Gathered.{Gathered}

@@ -1,6 +1,6 @@
 use Rattle.std.proofs.Common.{rules, ◌≡◌, ◌-◌, [], Bool, Some, Option, List, length, refl, sym, subst}
 use Rattle.mpd_model.specs.declared.step.Step.{Step}
-use Rattle.mpd_core.specs.DebuggerViews.{standing_of}
+use Rattle.mpd_trail.specs.DebuggerViews.{standing_of}
 use Rattle.mpd_explore.specs.Sleeping.{Rules}
 use Rattle.mpd_explore.specs.Pieces.{rules_of}
 use Rattle.mpd_explore.specs.Along.{Going}

@@ -1,7 +1,7 @@
 use Rattle.std.proofs.Common.{◌+◌, ◌∷◌, reverse, refl, ap, ◌∙◌, arith, List, add-one}
 use Rattle.mpd_model.specs.runs.Trail.{Trail}
-use Rattle.mpd_core.specs.Run.{first_of}
-use Rattle.mpd_core.specs.DebuggerViews.{standing_of}
+use Rattle.mpd_trail.specs.Run.{first_of}
+use Rattle.mpd_trail.specs.DebuggerViews.{standing_of}
 use Rattle.mpd_explore.specs.declared.search.Open.{Open}
 use Rattle.mpd_explore.specs.Search.{Search, search_by, At, after, states_left}
 use Rattle.mpd_explore.proofs.ListLemmas.{reverse_pushed}

@@ -1,6 +1,6 @@
 use Rattle.std.proofs.Common.{refl, sym, subst, reverse}
-use Rattle.mpd_core.specs.Run.{first_of}
-use Rattle.mpd_core.specs.DebuggerViews.{standing_of}
+use Rattle.mpd_trail.specs.Run.{first_of}
+use Rattle.mpd_trail.specs.DebuggerViews.{standing_of}
 use Rattle.mpd_explore.specs.Search.{Search, search_by, Stopped}
 use Rattle.mpd_explore.proofs.SearchLemmas.{stops, same_place, safe_beyond}
 use Rattle.mpd_explore.proofs.search.descend.Goals as goal

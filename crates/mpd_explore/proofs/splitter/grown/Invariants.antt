@@ -1,6 +1,6 @@
 use Rattle.std.proofs.Common.{◌≡◌, ◌≤◌, [], false, take, length}
 use Rattle.mpd_model.specs.runs.Trail.{IsReached}
-use Rattle.mpd_core.specs.DebuggerViews.{standing_of}
+use Rattle.mpd_trail.specs.DebuggerViews.{standing_of}
 use Rattle.mpd_explore.specs.declared.splitter.TheConstants.{PIECES_MAX}
 use Rattle.mpd_explore.specs.Along.{Adds, all_longer, choices_of}
 use Rattle.mpd_explore.proofs.splitter.grown.Given as goal

@@ -1,5 +1,5 @@
 use Rattle.std.proofs.Common.{◌-◌, suc, ◌∙◌, arith}
-use Rattle.mpd_core.specs.DebuggerViews.{standing_of}
+use Rattle.mpd_trail.specs.DebuggerViews.{standing_of}
 use Rattle.mpd_explore.proofs.SplitLemmas.{ahead_is}
 use Rattle.mpd_explore.proofs.PieceLemmas.{fuel_counted}
 use Rattle.mpd_explore.proofs.splitter.look_ahead.Goals as goal

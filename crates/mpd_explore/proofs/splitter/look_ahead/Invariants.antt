@@ -1,5 +1,5 @@
 use Rattle.std.proofs.Common.{◌≡◌, ◌-◌}
-use Rattle.mpd_core.specs.DebuggerViews.{standing_of}
+use Rattle.mpd_trail.specs.DebuggerViews.{standing_of}
 use Rattle.mpd_explore.specs.Pieces.{pieces}
 use Rattle.mpd_policy.specs.Walks.{Beyond}
 use Rattle.mpd_explore.proofs.splitter.look_ahead.Given as goal

@@ -1,5 +1,5 @@
 use Rattle.std.proofs.Common.{◌-◌, [], Some, false}
-use Rattle.mpd_core.specs.DebuggerViews.{standing_of}
+use Rattle.mpd_trail.specs.DebuggerViews.{standing_of}
 use Rattle.mpd_explore.specs.Sleeping.{Rules}
 use Rattle.mpd_explore.specs.Pieces.{rules_of}
 use Rattle.mpd_explore.specs.Slept.{asleep_there}

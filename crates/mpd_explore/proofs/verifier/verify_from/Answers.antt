@@ -1,7 +1,7 @@
 use Rattle.std.proofs.Common.{rules, ◌≡◌, ◌≢◌, IfErr}
 use Rattle.mpd_model.specs.steps.Outcomes.{outcome}
 use Rattle.mpd_explore.specs.declared.verifier.WitnessFault.TheVariants.{Memory}
-use Rattle.mpd_explore.specs.Witness.{end_in, IsWitnessFrom, HasFault, FaultAtEnd}
+use Rattle.mpd_explore.specs.Witness.{end_in, IsEndWitnessFrom, HasFault, FaultAtEnd}
 use Rattle.mpd_explore.proofs.VerifyLemmas.{stop_fault, end_fault, wants_last, only_memory, accepted_by, left_at_end}
 use Rattle.mpd_explore.proofs.verifier.verify_from.Goals as goal
 
@@ -17,7 +17,7 @@ returns-in_err-take_steps-clause-accepted c =
     let same : c.deref.result.now ≡ c.args.witness.now.steps = search rules in
     let found : c.in_err-take_steps.field-0.0 ≢ Memory → HasFault c.args.core.now.world 0 c.args.witness.now.steps c.args.witness.now.end c.in_err-take_steps.field-0.0 =
     λ k. stop_fault _ c.args.witness.now.steps c.deref.result.now c.args.witness.now.end _ same (c.in_err-take_steps.ensures.fault k) in
-    let refused : IsWitnessFrom c.args.core.now.world c.args.witness.now → c.in_err-take_steps.field-0.0 ≡ Memory = λ h. only_memory _ c.args.witness.now _ h found in
+    let refused : IsEndWitnessFrom c.args.core.now.world c.args.witness.now → c.in_err-take_steps.field-0.0 ≡ Memory = λ h. only_memory _ c.args.witness.now _ h found in
     search (rules, refused)
 
 pub returns-clause-fault : goal.returns-clause-fault

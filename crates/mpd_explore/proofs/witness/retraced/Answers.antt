@@ -1,5 +1,5 @@
 use Rattle.std.proofs.Common.{arith}
-use Rattle.mpd_core.specs.DebuggerViews.{standing_of}
+use Rattle.mpd_trail.specs.DebuggerViews.{standing_of}
 use Rattle.mpd_policy.proofs.WalkLemmas.{beyond_depth}
 use Rattle.mpd_explore.proofs.witness.retraced.Goals as goal
 

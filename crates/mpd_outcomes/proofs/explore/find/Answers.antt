@@ -1,6 +1,6 @@
 use Rattle.std.proofs.Common.{◌≤◌, refl, reverse, sym, ap, subst, List, arith}
 use Rattle.std.specs.List.{list_any}
-use Rattle.mpd_core.specs.DebuggerViews.{standing_of}
+use Rattle.mpd_trail.specs.DebuggerViews.{standing_of}
 use Rattle.mpd_outcomes.specs.declared.search.Open.{Open}
 use Rattle.mpd_outcomes.specs.Front.{Search, search_of, Before}
 use Rattle.mpd_outcomes.specs.Goals.{meets_any}

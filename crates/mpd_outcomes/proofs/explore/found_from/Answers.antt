@@ -1,6 +1,6 @@
 use Rattle.std.proofs.Common.{◌≡◌, ◌+◌, ◌-◌, ℕ, subst, arith}
 use Rattle.std.specs.Prelude.{IfOk}
-use Rattle.mpd_core.specs.DebuggerViews.{standing_of}
+use Rattle.mpd_trail.specs.DebuggerViews.{standing_of}
 use Rattle.mpd_outcomes.specs.Goals.{StopsRuns}
 use Rattle.mpd_outcomes.proofs.GatherLemmas.{safe_deep, all_back}
 use Rattle.mpd_outcomes.proofs.explore.found_from.Goals as goal

@@ -1,6 +1,6 @@
 use Rattle.std.proofs.Common.{◌≡◌, map, take, string_bytes}
 use Rattle.mpd_model.specs.runs.Trail.{done_steps, IsReached}
-use Rattle.mpd_core.specs.DebuggerViews.{standing_of}
+use Rattle.mpd_trail.specs.DebuggerViews.{standing_of}
 use Rattle.mpd_policy.specs.Wide.{wide_decision}
 use Rattle.mpd_explore.specs.WitnessTexts.{witness_text}
 use Rattle.mpd_outcomes.proofs.explore.texts_of.Given as goal
@@ -10,5 +10,5 @@ invariant-loop-leaf l = record {
   trail : l.debugger.trail ≡ l.fn.debugger.trail;
   world : l.debugger.world ≡ l.fn.debugger.world;
   reached : IsReached (standing_of l.debugger);
-  texts : map string_bytes l.texts.items ≡ map (witness_text wide_decision (done_steps l.fn.debugger.trail) l.limits.fuel l.fn.debugger.world) (take l.leaf-index l.leaves);
+  texts : map string_bytes l.texts.items ≡ map (witness_text wide_decision l.limits.witnesses (done_steps l.fn.debugger.trail) l.limits.fuel l.fn.debugger.world) (take l.leaf-index l.leaves);
 }

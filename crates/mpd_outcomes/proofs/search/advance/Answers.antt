@@ -1,9 +1,9 @@
 use Rattle.std.proofs.Common.{◌≡◌, ◌≤◌, ◌+◌, ◌-◌, suc, List, ◌∷◌, length, reverse, slice_get, refl, sym, ap, subst, ◌∙◌, arith, add-one}
-use Rattle.mpd_core.specs.DebuggerViews.{standing_of}
+use Rattle.mpd_trail.specs.DebuggerViews.{standing_of}
 use Rattle.mpd_model.specs.runs.Trail.{done_steps}
 use Rattle.mpd_explore.proofs.ListLemmas.{reverse_pushed}
 use Rattle.mpd_explore.proofs.SearchLemmas.{safe_same, safe_then}
-use Rattle.mpd_explore.specs.declared.report.Leaf.{Leaf}
+use Rattle.mpd_explore.specs.declared.report.SearchLeaf.{SearchLeaf}
 use Rattle.mpd_outcomes.specs.declared.table.Found.{Found}
 use Rattle.mpd_outcomes.specs.declared.search.Open.{Open}
 use Rattle.mpd_outcomes.specs.Front.{Search, search_of, before, come_to, After}
@@ -138,7 +138,7 @@ loop-top-preserved c =
           closed_after z top fs c.loop-top.front.ways.items c.loop-top.front.sums c.loop-top.front.table d k last c.close.new.front.sums c.close.new.front.table e came closed.counts closed.total closed.deepest table
           in
           subst (λ (os : List Open). After z os c.close.new.front.ways.items c.close.new.front.sums c.close.new.front.table e) (ap reverse (sym closed.stack))
-          (subst (λ (ws : List Leaf). After z fs ws c.close.new.front.sums c.close.new.front.table e) (sym closed.ways_are) after);
+          (subst (λ (ws : List SearchLeaf). After z fs ws c.close.new.front.sums c.close.new.front.table e) (sym closed.ways_are) after);
       come = λ root g.
           let z : Search = search_of c.args.bounds c.args.debugger.now.trail root in
           let k = popped_after z c.pop.new.self.items c.loop-top.front.stack.items top c.loop-top.front.ways.items c.loop-top.front.sums c.loop-top.front.table d c.in-Some.ensures.items (c.loop-top.invariant.stands root g) in

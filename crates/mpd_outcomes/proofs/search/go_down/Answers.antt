@@ -1,7 +1,7 @@
 use Rattle.std.proofs.Common.{◌≡◌, ◌<◌, ◌+◌, ◌-◌, ap, sym, ◌∙◌, arith}
 use Rattle.mpd_model.specs.declared.decision.Decision.TheVariants.{Forced, Leaf}
 use Rattle.mpd_model.specs.runs.Trail.{Trail}
-use Rattle.mpd_core.specs.DebuggerViews.{standing_of}
+use Rattle.mpd_trail.specs.DebuggerViews.{standing_of}
 use Rattle.mpd_policy.specs.Wide.{wide_decision}
 use Rattle.mpd_outcomes.proofs.EndLemmas.{ends_so}
 use Rattle.mpd_outcomes.proofs.MoveLemmas.{one_down, on_beyond}

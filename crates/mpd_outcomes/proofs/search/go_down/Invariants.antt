@@ -1,5 +1,5 @@
 use Rattle.std.proofs.Common.{◌≡◌}
-use Rattle.mpd_core.specs.DebuggerViews.{standing_of}
+use Rattle.mpd_trail.specs.DebuggerViews.{standing_of}
 use Rattle.mpd_policy.specs.Walks.{Beyond}
 use Rattle.mpd_outcomes.specs.Front.{SameRuns}
 use Rattle.mpd_outcomes.proofs.search.go_down.Given as goal

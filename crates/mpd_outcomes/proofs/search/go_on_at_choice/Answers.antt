@@ -1,7 +1,7 @@
 use Rattle.std.proofs.Common.{◌≡◌, ◌<◌, true, inl, sym, subst}
 use Rattle.std.specs.Prelude.{IfOk}
 use Rattle.mpd_model.specs.runs.Trail.{done_steps}
-use Rattle.mpd_core.specs.DebuggerViews.{standing_of}
+use Rattle.mpd_trail.specs.DebuggerViews.{standing_of}
 use Rattle.mpd_explore.proofs.SearchLemmas.{safe_then}
 use Rattle.mpd_outcomes.specs.Front.{Search, search_of, open_in, AfterIn, Met, Turned, come_now, come_to, states_now, states_met}
 use Rattle.mpd_outcomes.proofs.AlongLemmas.{advanced}

@@ -1,5 +1,5 @@
 use Rattle.mpd_model.specs.runs.Trail.{done_steps}
-use Rattle.mpd_core.specs.DebuggerViews.{standing_of}
+use Rattle.mpd_trail.specs.DebuggerViews.{standing_of}
 use Rattle.mpd_outcomes.specs.Front.{Search, search_of, picked, open_in, before, come_to}
 use Rattle.mpd_outcomes.proofs.AlongLemmas.{told_states, advanced}
 use Rattle.mpd_outcomes.proofs.AnswerLemmas.{noted_after, noted_come}

@@ -1,5 +1,5 @@
 use Rattle.std.proofs.Common.{◌≡◌, sym, ap, subst, ◌∙◌}
-use Rattle.mpd_core.specs.DebuggerViews.{standing_of}
+use Rattle.mpd_trail.specs.DebuggerViews.{standing_of}
 use Rattle.mpd_outcomes.specs.declared.search.Front.{Front}
 use Rattle.mpd_outcomes.specs.Front.{Search, search_of, open_in, BeforeIn, Opened, Recalled}
 use Rattle.mpd_outcomes.proofs.AlongLemmas.{told_states, opened_states}

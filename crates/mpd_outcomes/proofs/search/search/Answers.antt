@@ -1,7 +1,7 @@
 use Rattle.std.proofs.Common.{true, refl, sym, ap, subst, ◌∙◌, arith}
 use Rattle.std.specs.List.{list_any}
 use Rattle.mpd_model.specs.runs.Trail.{done_steps}
-use Rattle.mpd_core.specs.DebuggerViews.{standing_of}
+use Rattle.mpd_trail.specs.DebuggerViews.{standing_of}
 use Rattle.mpd_explore.proofs.SearchLemmas.{safe_same, safe_then}
 use Rattle.mpd_model.specs.steps.World.{World}
 use Rattle.mpd_outcomes.specs.Front.{Search, search_of, open_in, BeforeIn, before, come_now, WentOn}

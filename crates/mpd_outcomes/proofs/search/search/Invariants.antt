@@ -1,7 +1,7 @@
 use Rattle.std.proofs.Common.{◌≡◌, ◌≤◌, true, false}
 use Rattle.std.specs.List.{list_any}
 use Rattle.mpd_model.specs.steps.World.{World}
-use Rattle.mpd_core.specs.DebuggerViews.{standing_of}
+use Rattle.mpd_trail.specs.DebuggerViews.{standing_of}
 use Rattle.mpd_explore.specs.Search.{Safe}
 use Rattle.mpd_outcomes.specs.Front.{search_of, BeforeIn, states_now}
 use Rattle.mpd_outcomes.specs.Goals.{meets_any}

@@ -1,5 +1,5 @@
 use Rattle.std.proofs.Common.{sym, subst}
-use Rattle.mpd_core.specs.DebuggerViews.{standing_of}
+use Rattle.mpd_trail.specs.DebuggerViews.{standing_of}
 use Rattle.mpd_explore.proofs.SearchLemmas.{safe_then}
 use Rattle.mpd_outcomes.specs.declared.search.Arrived.{Arrived}
 use Rattle.mpd_outcomes.specs.Front.{Search, search_of, open_in, IsArrived, BeforeIn}

@@ -1,5 +1,5 @@
 use Rattle.std.proofs.Common.{◌≡◌, ◌<◌, ◌≤◌, ◌+◌, ℕ, suc, List, length, take, refl, sym, ap, ◌∙◌, arith}
-use Rattle.mpd_explore.specs.declared.report.Leaf.{Leaf}
+use Rattle.mpd_explore.specs.declared.report.SearchLeaf.{SearchLeaf}
 use Rattle.mpd_explore.specs.Ends.{has_end}
 use Rattle.mpd_outcomes.proofs.TellLemmas.{read_at, ends_more, all_taken}
 use Rattle.mpd_outcomes.proofs.ways.way_of.Goals as goal
@@ -23,4 +23,4 @@ loop-number-preserved c =
 pub returns-clause-none : goal.returns-clause-none
 returns-clause-none c =
     let all : length c.args.leaves.now ≤ c.loop-number.number = (let test = c.loop-number-test.false in let end = c.loop-number.auto.number-end in omega (arith, test, end)) in
-    ap (λ (ls : List Leaf). has_end ls c.args.ending.now) (sym (all_taken c.args.leaves.now c.loop-number.number all)) ∙ c.loop-number.invariant
+    ap (λ (ls : List SearchLeaf). has_end ls c.args.ending.now) (sym (all_taken c.args.leaves.now c.loop-number.number all)) ∙ c.loop-number.invariant

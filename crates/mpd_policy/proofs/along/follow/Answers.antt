@@ -1,4 +1,4 @@
-use Rattle.mpd_core.specs.DebuggerViews.{standing_of}
+use Rattle.mpd_trail.specs.DebuggerViews.{standing_of}
 use Rattle.mpd_policy.proofs.ChoiceLemmas.{followed}
 use Rattle.mpd_policy.proofs.along.follow.Goals as goal
 

@@ -1,7 +1,7 @@
 use Rattle.std.proofs.Common.{◌≡◌, ◌+◌, ap, sym, ◌∙◌}
 use Rattle.mpd_model.specs.declared.decision.Decision.TheVariants.{Forced, Choice}
 use Rattle.mpd_model.specs.runs.Trail.{Trail}
-use Rattle.mpd_core.specs.DebuggerViews.{standing_of}
+use Rattle.mpd_trail.specs.DebuggerViews.{standing_of}
 use Rattle.mpd_policy.proofs.WalkLemmas.{gone_forced, goes_chosen}
 use Rattle.mpd_policy.proofs.along.go_on.Goals as goal
 

@@ -1,5 +1,5 @@
 use Rattle.std.proofs.Common.{rules}
-use Rattle.mpd_core.specs.DebuggerViews.{standing_of}
+use Rattle.mpd_trail.specs.DebuggerViews.{standing_of}
 use Rattle.mpd_policy.proofs.WalkLemmas.{all_found}
 use Rattle.mpd_policy.proofs.along.put_back.Goals as goal
 

@@ -1,5 +1,5 @@
 use Rattle.std.proofs.Common.{◌≡◌, ◌<◌, refl, sym, arith}
-use Rattle.mpd_core.specs.DebuggerViews.{standing_of}
+use Rattle.mpd_trail.specs.DebuggerViews.{standing_of}
 use Rattle.mpd_policy.proofs.WalkLemmas.{beyond_same, beyond_then, gone_none, gone_then, goes_on, goes_stop, fuel_stop}
 use Rattle.mpd_policy.proofs.along.walk.Goals as goal
 

@@ -1,5 +1,5 @@
 use Rattle.std.proofs.Common.{rules}
-use Rattle.mpd_core.specs.DebuggerViews.{standing_of}
+use Rattle.mpd_trail.specs.DebuggerViews.{standing_of}
 use Rattle.mpd_policy.specs.Ahead.{Broken}
 use Rattle.mpd_policy.proofs.RunLemmas.{going_halted, going_hit, going_broken, going_refused}
 use Rattle.mpd_policy.proofs.runs.go.Goals as goal

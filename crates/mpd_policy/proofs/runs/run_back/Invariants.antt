@@ -1,5 +1,5 @@
 use Rattle.mpd_model.specs.runs.Trail.{IsReached}
-use Rattle.mpd_core.specs.DebuggerViews.{standing_of}
+use Rattle.mpd_trail.specs.DebuggerViews.{standing_of}
 use Rattle.mpd_policy.proofs.BackLemmas.{Backing}
 use Rattle.mpd_policy.proofs.runs.run_back.Given as goal
 

@@ -1,5 +1,5 @@
 use Rattle.std.proofs.Common.{◌-◌, length, refl}
-use Rattle.mpd_core.specs.DebuggerViews.{standing_of}
+use Rattle.mpd_trail.specs.DebuggerViews.{standing_of}
 use Rattle.mpd_policy.proofs.ChoiceLemmas.{fewer_left}
 use Rattle.mpd_runs.proofs.AlongLemmas.{ended_on, untaken_on, not_so}
 use Rattle.mpd_runs.proofs.by_choices.follow.Goals as goal

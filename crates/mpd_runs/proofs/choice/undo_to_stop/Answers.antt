@@ -1,5 +1,5 @@
 use Rattle.std.proofs.Common.{◌≡◌, ℕ, ◌-◌, Some, ap, ◌∙◌, rules}
-use Rattle.mpd_core.specs.DebuggerViews.{standing_of}
+use Rattle.mpd_trail.specs.DebuggerViews.{standing_of}
 use Rattle.mpd_runs.proofs.LastChoiceLemmas.{undoing_more, undone_to, deep_enough}
 use Rattle.mpd_runs.proofs.choice.undo_to_stop.Goals as goal
 

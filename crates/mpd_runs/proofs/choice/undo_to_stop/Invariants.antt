@@ -1,4 +1,4 @@
-use Rattle.mpd_core.specs.DebuggerViews.{standing_of}
+use Rattle.mpd_trail.specs.DebuggerViews.{standing_of}
 use Rattle.mpd_runs.proofs.LastChoiceLemmas.{Undoing}
 use Rattle.mpd_runs.proofs.choice.undo_to_stop.Given as goal
 

@@ -1,5 +1,5 @@
 use Rattle.std.proofs.Common.{sym, subst, ◌∙◌}
-use Rattle.mpd_core.specs.DebuggerViews.{standing_of}
+use Rattle.mpd_trail.specs.DebuggerViews.{standing_of}
 use Rattle.mpd_runs.specs.Drawing.{Drew}
 use Rattle.mpd_runs.proofs.DrawLemmas.{drew_by, same_name, same_mark}
 use Rattle.mpd_runs.proofs.draw.draw_run.Goals as goal

@@ -1,5 +1,5 @@
 use Rattle.std.proofs.Common.{◌-◌, ℕ, nat_lt, arith}
-use Rattle.mpd_core.specs.DebuggerViews.{standing_of}
+use Rattle.mpd_trail.specs.DebuggerViews.{standing_of}
 use Rattle.mpd_model.specs.declared.limits.TheConstants.{STEPS_MAX}
 use Rattle.mpd_runs.proofs.FirstLemmas.{lead, fits_few}
 use Rattle.mpd_runs.proofs.first.lead_first.Goals as goal

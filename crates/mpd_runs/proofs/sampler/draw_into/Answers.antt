@@ -1,4 +1,4 @@
-use Rattle.mpd_core.specs.DebuggerViews.{standing_of}
+use Rattle.mpd_trail.specs.DebuggerViews.{standing_of}
 use Rattle.mpd_runs.specs.Drawing.{leaves_in}
 use Rattle.mpd_runs.proofs.SampleLemmas.{adds_leaf}
 use Rattle.mpd_runs.proofs.sampler.draw_into.Goals as goal

@@ -1,8 +1,9 @@
 use Rattle.std.proofs.Common.{◌≡◌, ◌+◌, ◌-◌, ℕ, suc, map, refl, ap, ◌∙◌, arith}
 use Rattle.mpd_model.specs.runs.Trail.{done_steps}
-use Rattle.mpd_core.specs.DebuggerViews.{standing_of}
+use Rattle.mpd_trail.specs.DebuggerViews.{standing_of}
 use Rattle.mpd_policy.specs.Wide.{wide_decision}
 use Rattle.mpd_explore.specs.WitnessTexts.{witness_text}
+use Rattle.mpd_explore.specs.Asked.{are_asked}
 use Rattle.mpd_runs.specs.Drawing.{in_box, leaves_in, text_in}
 use Rattle.mpd_runs.proofs.SampleLemmas.{sampling_none, sampling_more, sampling_left, samples_last, samples_all, sample_rises, even_of, adds_at}
 use Rattle.mpd_runs.proofs.sampler.gather.Goals as goal
@@ -26,7 +27,7 @@ add_run-requires-clause-rises g c =
 pub add_run-requires-clause-even : goal.add_run-requires-clause-even
 add_run-requires-clause-even g c =
     let i = c.loop-turn.invariant in
-    even_of c.args.limits.witnesses (witness_text wide_decision (done_steps c.args.debugger.now.trail) c.args.limits.fuel c.args.debugger.now.world) (leaves_in c.loop-turn.held.leaves) _ i.sampling.texts_are
+    even_of (are_asked c.args.limits.witnesses) (witness_text wide_decision c.args.limits.witnesses (done_steps c.args.debugger.now.trail) c.args.limits.fuel c.args.debugger.now.world) (leaves_in c.loop-turn.held.leaves) _ i.sampling.texts_are
 
 pub returns-then-is_last-clause-samples : goal.returns-then-is_last-clause-samples
 returns-then-is_last-clause-samples g c =

@@ -1,6 +1,6 @@
 use Rattle.std.proofs.Common.{◌≡◌, ◌-◌}
 use Rattle.mpd_model.specs.runs.Trail.{done_steps, IsReached}
-use Rattle.mpd_core.specs.DebuggerViews.{standing_of}
+use Rattle.mpd_trail.specs.DebuggerViews.{standing_of}
 use Rattle.mpd_runs.specs.Drawing.{Sampling, leaves_in, texts_in}
 use Rattle.mpd_runs.proofs.sampler.gather.Given as goal
 

@@ -1,5 +1,5 @@
 use denote.Param.Send.{sendable}
-use Rattle.mpd_server.proofs.Crossing.{shared_sync}
+use Rattle.mpd_session.proofs.Crossing.{shared_sync}
 use Rattle.mpd_server.proofs.server.attend.Goals as goal
 
 pub serve_all-requires-sync-T : goal.serve_all-requires-sync-T

@@ -1,0 +1,5 @@
+use Rattle.std.specs.Io.KnownBytes.{Keeps}
+use Rattle.mpd_model.proofs.device.write_again.Given as goal
+
+abbrev pub invariant-loop-try : goal.invariant-loop-try
+invariant-loop-try g l = Keeps (g.W.Write.contents l.fn.writer) (g.W.Write.contents l.writer)

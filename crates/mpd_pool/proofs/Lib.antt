@@ -1,0 +1,6 @@
+mod Keeps
+mod Places
+mod Workers
+mod Joined
+mod Crossing
+mod Lines

@@ -1,0 +1,7 @@
+use Rattle.std.proofs.Common.{string_bytes, map}
+use Rattle.mpd_explore.proofs.PrintLemmas.{told_reports}
+use Rattle.mpd_pool.proofs.print.print_report.Goals as goal
+
+pub returns-clause-text : goal.returns-clause-text
+returns-clause-text g c = λ decide asked before fuel w are.
+    told_reports decide c.told.result string_bytes asked before fuel w (map string_bytes c.args.report.now.witnesses.items) c.args.report.now.leaves.items c.args.report.now.more c.told.ensures are
