@@ -49,10 +49,10 @@ LEFT_OUT = {
     'mpd_explore': {
         **dict.fromkeys(('push_choices', 'ends_with_report'), 'called by check'), **dict.fromkeys(('witness_here', 'ends_with'), 'called by explore'),
         **dict.fromkeys(('same_trap', 'same_ending', 'are_asked', 'asks', 'searched'), 'takes no memory'),
-        **dict.fromkeys(('explore', 'explore_at', 'split', 'print_report'), 'called by direct/named_rows.rattle'), 'with_witnesses': 'called by explore',
+        **dict.fromkeys(('explore', 'explore_at', 'split', 'print_report'), 'called by direct/public_searches.rattle'), 'with_witnesses': 'called by explore',
         **dict.fromkeys(('pieces_join_to_the_walk', 'each_piece_is_reached', 'no_choice_is_the_whole', 'no_more_is_the_whole',
                          'a_deadlock_has_a_witness'), 'a law')},
-    'mpd_pool': {'check': 'called by direct/named_rows.rattle', 'limits': 'takes no memory'},
+    'mpd_pool': {'check': 'called by direct/public_searches.rattle', 'limits': 'takes no memory'},
     'mpd_blame': {
         'blame_lines': 'called by check_outcomes', 'line_of_leaf': 'called by blame_lines', **dict.fromkeys(('blame_run', 'push_blame'), BY_WORDS)},
     'mpd_outcomes': {

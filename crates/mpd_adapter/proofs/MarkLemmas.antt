@@ -3,7 +3,7 @@ use Rattle.std.proofs.Common.{◌≡◌, ℕ, suc, ◌+◌, ◌-◌, ◌<◌, �
 use Rattle.std.proofs.lemmas.Bool.{ltb-true, ltb-false, lt-ltb, le-ltb}
 use Rattle.std.proofs.lemmas.List.{drop_more, drop_all}
 use Rattle.std.specs.List.{range_with_len}
-use Rattle.mpd_model.specs.declared.breakpoint.Break.{Break}
+use Rattle.mpd_model.specs.declared.breakpoint.Breakpoint.{Breakpoint}
 use Rattle.mpd_model.specs.script.Program.{Program}
 use Rattle.mpd_model.specs.runs.Breakpoints.{break_at}
 use Rattle.mpd_session.specs.Held.{Held}
@@ -23,13 +23,13 @@ never_wants c never wants = let h : false ≡ true = sym never ∙ wants in cc
 
 -- ---- those of kind `line`
 
-pub removed_one : (c e : Console) (n : ℕ) (s : Held) (places : List (Option Break)) (place : Option Break) → s ≡ c.session → places ≡ s.breaks → place ≡ break_at places n → true ≡ is_of_line place
+pub removed_one : (c e : Console) (n : ℕ) (s : Held) (places : List (Option Breakpoint)) (place : Option Breakpoint) → s ≡ c.session → places ≡ s.breaks → place ≡ break_at places n → true ≡ is_of_line place
     → e ≡ record c { session = asked c.session (command.Unbreak n) } → e ≡ record c { session = without c.session n }
 removed_one c e n s places place at held found is did =
     let b : true ≡ is_of_line (break_at c.session.breaks n) = is ∙ ap is_of_line found ∙ ap (λ x. is_of_line (break_at x n)) held ∙ ap (λ (x : Held). is_of_line (break_at x.breaks n)) at in
     did ∙ ap (λ x. record c { session = if x then asked c.session (command.Unbreak n) else c.session }) b
 
-pub removed_none : (c : Console) (n : ℕ) (s : Held) (places : List (Option Break)) (place : Option Break) → s ≡ c.session → places ≡ s.breaks → place ≡ break_at places n → false ≡ is_of_line place → c ≡ record c { session = without c.session n }
+pub removed_none : (c : Console) (n : ℕ) (s : Held) (places : List (Option Breakpoint)) (place : Option Breakpoint) → s ≡ c.session → places ≡ s.breaks → place ≡ break_at places n → false ≡ is_of_line place → c ≡ record c { session = without c.session n }
 removed_none c n s places place at held found is =
     let b : false ≡ is_of_line (break_at c.session.breaks n) = is ∙ ap is_of_line found ∙ ap (λ x. is_of_line (break_at x n)) held ∙ ap (λ (x : Held). is_of_line (break_at x.breaks n)) at in
     ap (λ x. record c { session = if x then asked c.session (command.Unbreak n) else c.session }) b

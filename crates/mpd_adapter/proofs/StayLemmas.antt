@@ -3,7 +3,7 @@ use Rattle.std.proofs.Common.{◌≡◌, ◌≢◌, ℕ, Bool, true, false, if�
 use Rattle.std.proofs.lemmas.List.{get_or-set_other}
 use Rattle.std.specs.List.{range_with_len}
 use Rattle.mpd_model.specs.declared.limits.TheConstants.{BREAKS_MAX}
-use Rattle.mpd_model.specs.declared.breakpoint.Break.{Break}
+use Rattle.mpd_model.specs.declared.breakpoint.Breakpoint.{Breakpoint}
 use Rattle.mpd_model.specs.steps.World.{World}
 use Rattle.mpd_model.specs.runs.Trail.{world_of}
 use Rattle.mpd_model.specs.runs.Breakpoints.{break_at, lowest_free}
@@ -33,14 +33,14 @@ stays_on s t u (trail, others) (more, rest) = (more ∙ trail, λ n b h o. rest 
 
 -- ---- one is removed
 
-not_there : (places : List (Option Break)) (k n : ℕ) (b : Break) → is_of_line (break_at places k) ≡ true → break_at places n ≡ Some b → is_of_line (Some b) ≡ false → n ≢ k
+not_there : (places : List (Option Breakpoint)) (k n : ℕ) (b : Breakpoint) → is_of_line (break_at places k) ≡ true → break_at places n ≡ Some b → is_of_line (Some b) ≡ false → n ≢ k
 not_there places k n b line h other same =
     let e : true ≡ false = sym line ∙ ap (λ i. is_of_line (break_at places i)) (sym same) ∙ ap is_of_line h ∙ other in cc
 
-abbrev removal : List (Option Break) → ℕ → Bool → OnBreaks
+abbrev removal : List (Option Breakpoint) → ℕ → Bool → OnBreaks
 removal places k there = if there then (Changed answer.Removed, slice_set places k None) else (Refused refused.NoSuchBreak, places)
 
-removed_by : (places : List (Option Break)) (k : ℕ) (there : Bool) → is_of_line (break_at places k) ≡ true → KeepsOthers places (removal places k there).1
+removed_by : (places : List (Option Breakpoint)) (k : ℕ) (there : Bool) → is_of_line (break_at places k) ≡ true → KeepsOthers places (removal places k there).1
 removed_by places k true line = λ n b h o. get_or-set_other places k n None None (not_there places k n b line h o) ∙ h
 removed_by places k false line = λ n b h o. h
 
@@ -62,21 +62,21 @@ without_stays s (k ∷ numbers) = stays_on s (without s k) (without_all (without
 
 -- ---- one is set
 
-not_free : (places : List (Option Break)) (k n : ℕ) (b : Break) → is_none (break_at places k) ≡ true → break_at places n ≡ Some b → n ≢ k
+not_free : (places : List (Option Breakpoint)) (k n : ℕ) (b : Breakpoint) → is_none (break_at places k) ≡ true → break_at places n ≡ Some b → n ≢ k
 not_free places k n b free h same = let e : true ≡ false = sym free ∙ ap (λ i. is_none (break_at places i)) (sym same) ∙ ap is_none h in cc
 
-added_at : (places : List (Option Break)) (c : Break) (o : Option ℕ) → lowest_free places ≡ o → KeepsOthers places (added_effect places c o).1
+added_at : (places : List (Option Breakpoint)) (c : Breakpoint) (o : Option ℕ) → lowest_free places ≡ o → KeepsOthers places (added_effect places c o).1
 added_at places c None e = λ n b h other. h
 added_at places c (Some k) e = λ n b h other. get_or-set_other places k n (Some c) None (not_free places k n b (first_passes (λ i. is_none (break_at places i)) _ k e) h) ∙ h
 
-abbrev addition : List (Option Break) → Break → Bool → OnBreaks
+abbrev addition : List (Option Breakpoint) → Breakpoint → Bool → OnBreaks
 addition places c there = if there then added_effect places c (lowest_free places) else (Refused refused.BadNumber, places)
 
-added_by : (places : List (Option Break)) (c : Break) (there : Bool) → KeepsOthers places (addition places c there).1
+added_by : (places : List (Option Breakpoint)) (c : Breakpoint) (there : Bool) → KeepsOthers places (addition places c there).1
 added_by places c true = added_at places c (lowest_free places) refl
 added_by places c false = λ n b h other. h
 
-break_stays_at : (s : Held) (c : Break) (o : Option World) → KeepsRest s (respond_at s o (asking (command.Break c))).1
+break_stays_at : (s : Held) (c : Breakpoint) (o : Option World) → KeepsRest s (respond_at s o (asking (command.Break c))).1
 break_stays_at s c None = stays s
 break_stays_at s c (Some w) = (refl, added_by s.breaks c (is_there w c))
 

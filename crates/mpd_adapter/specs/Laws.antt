@@ -1,7 +1,7 @@
 -- What the laws of the adapter say.
 use Rattle.std.specs.Prelude.{◌≡◌, ◌⊎◌, ℕ, false, List, [], ◌∷◌, Option, Some}
 use Rattle.serde_json.specs.Data.{Data}
-use Rattle.mpd_model.specs.declared.breakpoint.Break.{Break}
+use Rattle.mpd_model.specs.declared.breakpoint.Breakpoint.{Breakpoint}
 use Rattle.mpd_model.specs.runs.Breakpoints.{break_at}
 use Rattle.mpd_session.specs.Held.{Held}
 use Rattle.mpd_dap.specs.declared.ask.Message.{Message}
@@ -25,8 +25,8 @@ abbrev pub SaysNothing : Adapter → List (List ℕ) → Adapter → Type 0
 SaysNothing d frames e = ((frames ≡ []) × (e ≡ d)) ⊎ (Unheard d frames e × (e.console ≡ d.console))
 
 -- each breakpoint of another kind than `line` has the number that it had
-abbrev pub KeepsOthers : List (Option Break) → List (Option Break) → Type 0
-KeepsOthers old new = (n : ℕ) (b : Break) → break_at old n ≡ Some b → is_of_line (Some b) ≡ false → break_at new n ≡ Some b
+abbrev pub KeepsOthers : List (Option Breakpoint) → List (Option Breakpoint) → Type 0
+KeepsOthers old new = (n : ℕ) (b : Breakpoint) → break_at old n ≡ Some b → is_of_line (Some b) ≡ false → break_at new n ≡ Some b
 
 -- so it is of a session, whose steps are what they were
 abbrev pub KeepsRest : Held → Held → Type 0

@@ -3,8 +3,8 @@ use Rattle.std.specs.Prelude.{ℕ, Bool, true, false, nat_lt, if◌then◌else�
 use Rattle.std.specs.Fmt.{decimal}
 use Rattle.std.specs.List.{range_with_len}
 use Rattle.mpd_model.specs.declared.limits.TheConstants.{BREAKS_MAX}
-use Rattle.mpd_model.specs.declared.breakpoint.Break.{Break}
-use Rattle.mpd_model.specs.declared.breakpoint.Break.TheVariants as on
+use Rattle.mpd_model.specs.declared.breakpoint.Breakpoint.{Breakpoint}
+use Rattle.mpd_model.specs.declared.breakpoint.Breakpoint.TheVariants as on
 use Rattle.mpd_model.specs.script.Declaration.{Declared}
 use Rattle.mpd_model.specs.script.Program.{Program}
 use Rattle.mpd_model.specs.runs.Breakpoints.{break_at}
@@ -38,7 +38,7 @@ asked s c = (respond s (asking c)).1
 
 -- ---- those of kind `line` are removed
 
-abbrev pub is_of_line : Option Break → Bool
+abbrev pub is_of_line : Option Breakpoint → Bool
 is_of_line (Some (on.Line n of when)) = true
 is_of_line other = false
 
@@ -77,25 +77,25 @@ abbrev pub break_words : ℕ → List ℕ → List ℕ
 break_words n z = codes "break " ++ (decimal n ++ z)
 
 -- the breakpoint of a line that a line of the console sets, if it sets one
-abbrev pub set_by : Line → Option Break
+abbrev pub set_by : Line → Option Breakpoint
 set_by (Says (word.Break (on.Line n of when))) = Some (on.Line n of when)
 set_by other = None
 
-abbrev pub read_so : List Declared → ℕ → List ℕ → Option Break
+abbrev pub read_so : List Declared → ℕ → List ℕ → Option Breakpoint
 read_so ds n z = set_by (line_of ds (break_words n z))
 
-abbrev pub or_else : Option Break → Option Break → Option Break
+abbrev pub or_else : Option Breakpoint → Option Breakpoint → Option Breakpoint
 or_else None other = other
 or_else (Some b) other = Some b
 
 -- A condition is read as it stands, and once more with `if` before it.
-abbrev pub read_for : List Declared → ℕ → Option (List ℕ) → Option Break
+abbrev pub read_for : List Declared → ℕ → Option (List ℕ) → Option Breakpoint
 read_for ds n None = read_so ds n []
 read_for ds n (Some z) = or_else (read_so ds n (codes " " ++ z)) (read_so ds n (codes " if " ++ z))
 
 -- ---- what a breakpoint that is wanted comes to
 
-abbrev pub plan_with : ℕ → ℕ → Option Break → Plan
+abbrev pub plan_with : ℕ → ℕ → Option Breakpoint → Plan
 plan_with given n None = Fails given trouble.BadCondition
 plan_with given n (Some b) = Sets given n b
 

@@ -8,7 +8,7 @@ use crate::numbers::from_one;
 use mpd_code::Code;
 use mpd_console::ConsoleDesk;
 use mpd_dap::{Mark, Trouble, Wanted};
-use mpd_model::{BREAKS_MAX, Break};
+use mpd_model::{BREAKS_MAX, Breakpoint};
 use mpd_session::{Answer, Command, Refusal, Reply, Request};
 use mpd_vocabulary::{Line, Word, line_of};
 use std::alloc::{AllocError, Global};
@@ -30,7 +30,7 @@ pub enum Plan {
         /// The line of it, from 1.
         line: usize,
         /// The breakpoint.
-        stop: Break,
+        stop: Breakpoint,
     },
 }
 
@@ -49,10 +49,10 @@ fn ask(console: &mut ConsoleDesk<'_, '_>, alloc: Global, command: Command) -> Re
 }
 
 /// Whether a breakpoint is of kind `line`.
-fn is_of_line(stop: Option<Break>) -> bool
+fn is_of_line(stop: Option<Breakpoint>) -> bool
     ensures { result ≡ spec.is_of_line stop }
 {
-    matches!(stop, Some(Break::Line { .. }))
+    matches!(stop, Some(Breakpoint::Line { .. }))
 }
 
 /// Removes the breakpoint of a number, if it is of kind `line`.
@@ -60,7 +60,7 @@ fn is_of_line(stop: Option<Break>) -> bool
 fn remove(console: &mut ConsoleDesk<'_, '_>, alloc: Global, number: usize)
     ensures { console.new ≡ record console.old { session = spec.without console.old.session number } }
 {
-    if is_of_line(console.session().breaks().get(number)) {
+    if is_of_line(console.session().breaks().breakpoint(number)) {
         let _ = ask(console, alloc, Command::Unbreak(number));
     }
 }
@@ -108,12 +108,12 @@ fn line_from(from: usize, lines: &[usize]) -> Option<usize>
 }
 
 /// The breakpoint of a line that a line of the console sets, if it sets one.
-fn set_by(line: Line) -> Option<Break>
+fn set_by(line: Line) -> Option<Breakpoint>
     ensures { result ≡ spec.set_by line }
 {
     match line {
         Line::Says(Word::Break(stop)) => match stop {
-            Break::Line { .. } => Some(stop),
+            Breakpoint::Line { .. } => Some(stop),
             _ => None,
         },
         _ => None,
@@ -136,7 +136,7 @@ fn read_so(
     line: usize,
     lead: &str,
     condition: &str,
-) -> Result<Option<Break>, AllocError>
+) -> Result<Option<Breakpoint>, AllocError>
     ensures { IfOk result (λ stop. stop ≡ spec.read_so code.now.program.decls line (lead.now ++ condition.now)) }
 {
     let mut text = String::new(alloc);
@@ -150,7 +150,7 @@ fn read_either(
     code: &Code,
     line: usize,
     condition: &str,
-) -> Result<Option<Break>, AllocError>
+) -> Result<Option<Breakpoint>, AllocError>
     ensures { IfOk result (λ stop. stop ≡ spec.read_for code.now.program.decls line (Some condition.now)) }
 {
     match read_so(alloc, code, line, " ", condition)? {
@@ -165,7 +165,7 @@ fn read_for(
     code: &Code,
     line: usize,
     wanted: &Wanted,
-) -> Result<Option<Break>, AllocError>
+) -> Result<Option<Breakpoint>, AllocError>
     ensures { IfOk result (λ stop. stop ≡ spec.read_for code.now.program.decls line wanted.now.condition) }
 {
     match &wanted.condition {

@@ -1,5 +1,5 @@
 -- What a check answers.
-use Rattle.std.specs.Prelude.{◌≡◌, ◌<◌, ◌≤◌, ℕ, ◌+◌, ◌++◌, Bool, List, [], length, slice_get, Option, Some, Result, Ok, Err, codes, string_bytes}
+use Rattle.std.specs.Prelude.{◌≡◌, ◌<◌, ◌≤◌, ℕ, ◌+◌, ◌++◌, Bool, false, if◌then◌else◌, List, [], length, slice_get, Option, Some, Result, Ok, Err, codes, string_bytes}
 use Rattle.std.specs.Fmt.{decimal}
 use Rattle.std.specs.Io.KnownBytes.{Appends}
 use Rattle.mpd_model.specs.declared.call.Mode.{Mode}
@@ -8,6 +8,7 @@ use Rattle.mpd_model.specs.steps.World.{start}
 use Rattle.mpd_model.specs.texts.Texts.{line}
 use Rattle.mpd_model.specs.devices.Seen.{SinkSeen}
 use Rattle.mpd_explore.specs.declared.report.SearchLeaf.{SearchLeaf}
+use Rattle.mpd_explore.specs.declared.report.Witnesses.TheVariants.{OfNone, OfDeadlocks}
 use Rattle.mpd_explore.specs.Sleeping.{decides_by}
 use Rattle.mpd_explore.specs.ReportText.{report_text}
 use Rattle.mpd_explore.specs.declared.splitter.TheConstants.{PIECES_MAX}
@@ -16,12 +17,14 @@ use Rattle.mpd_pool.specs.declared.pool.TheConstants.{WORKERS_MAX}
 use Rattle.mpd_pool.specs.declared.pool.SearchPlan.{SearchPlan}
 use Rattle.mpd_lines.specs.declared.engine.EngineFault.TheVariants.{ReadFailed, WriteFailed, TooManyTurns, Memory}
 use Rattle.mpd_lines.specs.Telling.{AppendsPart}
+use Rattle.mpd_lines.specs.declared.verdict.Verdict.{Verdict}
 use Rattle.mpd_check.specs.declared.fault.CheckFault.{CheckFault}
 use Rattle.mpd_check.specs.declared.fault.CheckFault.TheVariants.{BadWorkers, TooManyPieces, NoSuchPiece, Engine}
 use Rattle.mpd_check.specs.declared.counts.Tally.{Tally}
 use Rattle.mpd_check.specs.declared.modes.Listed.TheVariants as listed
 use Rattle.mpd_check.specs.declared.Told.{Told}
-use Rattle.mpd_check.specs.Tally.{tally_of}
+use Rattle.mpd_check.specs.declared.ReportOptions.{ReportOptions}
+use Rattle.mpd_check.specs.Tally.{tally_of, verdict_of}
 use Rattle.mpd_check.specs.ModeText.{mode_line, least_line}
 
 -- ---- what is told of a script's runs from its start
@@ -95,6 +98,18 @@ AnsweredBy text s mode plan workers old new (Err (NoSuchPiece number count)) = �
 -- the whole report
 abbrev pub Answered : Program → Mode → SearchPlan → ℕ → SinkSeen → SinkSeen → Result Tally CheckFault → Type 0
 Answered s mode plan workers old new result = AnsweredBy (text_of s mode plan (leaves_of s mode plan) (more_of s mode plan)) s mode plan workers old new result
+
+-- the search that is asked for where no more is said than these
+abbrev pub plan_by : ReportOptions → SearchPlan
+plan_by o = record {
+  split = o.split;
+  limits = record { runs = o.runs; fuel = o.fuel; witnesses = if o.witness then OfDeadlocks else OfNone; until_bad = false; ends = false };
+}
+
+-- the whole report, and whether something bad is listed
+abbrev pub Judged : Program → ReportOptions → SinkSeen → SinkSeen → Result Verdict CheckFault → Type 0
+Judged s o old new (Ok v) = (t : Tally) × Answered s o.mode (plan_by o) o.workers old new (Ok t) × (v ≡ verdict_of false false t)
+Judged s o old new (Err fault) = Answered s o.mode (plan_by o) o.workers old new (Err fault)
 
 -- one line of what it tells
 abbrev pub ModeAnswered : Program → Mode → SearchPlan → ℕ → SinkSeen → SinkSeen → Result Tally CheckFault → Type 0

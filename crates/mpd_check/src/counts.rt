@@ -1,6 +1,6 @@
 //! What a report tells of a script, counted (docs/FORMATS.md, "Reports").
 
-ghost use Rattle.std.specs.Prelude.{◌≡◌, ◌<◌, Bool, length, count_by};
+ghost use Rattle.std.specs.Prelude.{◌≡◌, ◌<◌, Bool, false, length, count_by};
 ghost use Rattle.std.specs.Bool.{Decides};
 ghost use Rattle.mpd_check.specs.Tally.{tally_of, is_of, is_bad, is_whole, LeavesOutNone, TellsAll, verdict_of};
 
@@ -41,6 +41,16 @@ impl Tally {
         ensures { result ≡ is_bad self }
     {
         self.deadlocks > 0 || self.traps > 0
+    }
+
+    /// Bad if the report lists a deadlock or a trap, else good.
+    pub(crate) fn judged(self) -> Verdict
+        ensures { result ≡ verdict_of false false self }
+    {
+        if self.is_bad() {
+            return Verdict::Bad;
+        }
+        Verdict::Good
     }
 
     /// Whether it is whole: there are no more runs than it lists, and none was cut.

@@ -9,7 +9,7 @@ pub mod modes;
 pub mod outcomes;
 pub mod part;
 
-ghost use Rattle.mpd_check.specs.Checked.{pieces_of, leaves_of, more_of, text_of, AreFew, IsCrew, Answered, Put};
+ghost use Rattle.mpd_check.specs.Checked.{pieces_of, leaves_of, more_of, text_of, AreFew, IsCrew, Answered, Put, Judged, plan_by};
 ghost use Rattle.mpd_check.specs.Refused.{refused_by};
 ghost use Rattle.mpd_check.specs.Tally.{tally_of};
 ghost use Rattle.std.specs.Prelude.{◌≡◌, ◌↔◌, ◌≤◌, ◌<◌, ◌⊎◌, true, IfOk, OnOk, IsErrOf, length};
@@ -19,11 +19,11 @@ pub use counts::Tally;
 pub use fault::CheckFault;
 pub use listing::{SamplePlan, Telling, Wanted, check_listing, check_sample};
 pub use modes::{Tried, check_mode, put_least};
-use mpd_code::Subject;
-use mpd_explore::PIECES_MAX;
-use mpd_lines::{EngineFault, write_all};
-use mpd_model::{STEPS_MAX, Sink};
-use mpd_pool::{Crew, Gate, PoolFault, SearchPlan, WORKERS_MAX, print_report};
+use mpd_code::{Code, Subject};
+use mpd_explore::{PIECES_MAX, SearchLimits, Witnesses};
+use mpd_lines::{EngineFault, Verdict, write_all};
+use mpd_model::{Mode, STEPS_MAX, Sink};
+use mpd_pool::{Crew, Gate, PoolFault, SearchPlan, Ungated, WORKERS_MAX, print_report};
 use mpd_trail::Debugger;
 pub use outcomes::{OutcomesFound, OutcomesPlan, check_mode_outcomes, check_outcomes};
 pub use part::{check_piece, count_pieces};
@@ -111,7 +111,7 @@ fn tell<G: Gate, R: Threads + Sync>(
 /// more than 1,024 pieces (31); `WriteFailed` (46) comes only if a write failed, and `Memory` only
 /// before anything is written. Requires a fuel of at most 1,000,000 steps. `gate` is told how far
 /// the exploration is, and of its end before anything is written; nothing else depends on it.
-pub fn check<W: Sink, G: Gate, R: Threads + Sync>(
+pub fn check_search<W: Sink, G: Gate, R: Threads + Sync>(
     crew: Crew<'_, R>,
     alloc: Global,
     subject: Subject<'_>,
@@ -131,4 +131,70 @@ pub fn check<W: Sink, G: Gate, R: Threads + Sync>(
         Ok(told) => put(told, sink),
         Err(fault) => Err(refused(fault)),
     }
+}
+
+/// How a script is checked where no more is asked for (docs/FORMATS.md, "Reports").
+#[derive(Clone, Copy)]
+pub struct ReportOptions {
+    /// How standard sends go.
+    pub mode: Mode,
+    /// How many runs of each piece are listed at most, 1 to 65,536.
+    pub runs: usize,
+    /// How many steps a run has at most, up to 1,000,000.
+    pub fuel: usize,
+    /// By how many first choices the runs are cut into pieces, 0 to 8.
+    pub split: usize,
+    /// How many workers explore, 1 to 16.
+    pub workers: usize,
+    /// Whether a deadlock is followed by its witness.
+    pub witness: bool,
+}
+
+impl ReportOptions {
+    /// The search that they ask for.
+    fn plan(self) -> SearchPlan
+        ensures { result ≡ plan_by self }
+    {
+        let witnesses = if self.witness {
+            Witnesses::OfDeadlocks
+        } else {
+            Witnesses::OfNone
+        };
+        SearchPlan {
+            split: self.split,
+            limits: SearchLimits {
+                runs: self.runs,
+                fuel: self.fuel,
+                witnesses,
+                until_bad: false,
+                ends: false,
+            },
+        }
+    }
+}
+
+/// The report of a script's runs, written to a sink: a line for each, the witness after a deadlock
+/// if it is wanted, and how many there are (docs/FORMATS.md, "Reports"). The verdict is bad if a
+/// deadlock or a trap is listed, else good; its `status` is the program's. Refused as `check_search`
+/// is, in the same order. Requires a fuel of at most 1,000,000 steps.
+pub fn check<W: Sink, R: Threads + Sync>(
+    rt: &R,
+    alloc: Global,
+    code: &Code,
+    options: ReportOptions,
+    sink: &mut W,
+) -> Result<Verdict, CheckFault>
+    requires { options.fuel ≤ STEPS_MAX }
+    ensures { Judged code.now.program options (W.seen sink.old) (W.seen sink.new) result }
+{
+    let crew = Crew {
+        rt,
+        workers: options.workers,
+    };
+    let subject = Subject {
+        code,
+        mode: options.mode,
+    };
+    let tally = check_search(crew, alloc, subject, options.plan(), sink, &Ungated)?;
+    Ok(tally.judged())
 }

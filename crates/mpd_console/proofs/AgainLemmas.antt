@@ -1,7 +1,7 @@
 -- What is told of a script that is read again, put together from its parts.
 use Rattle.std.proofs.Common.{◌≡◌, ℕ, List, [], ◌++◌, Option, Result, Ok, Err, OnOk, ap, ◌∙◌}
 use Rattle.mpd_names.proofs.JoinLemmas.{grown}
-use Rattle.mpd_model.specs.declared.breakpoint.Break.{Break}
+use Rattle.mpd_model.specs.declared.breakpoint.Breakpoint.{Breakpoint}
 use Rattle.mpd_model.specs.script.Program.{Program}
 use Rattle.mpd_marks.specs.Marked.{marked}
 use Rattle.mpd_session.specs.Held.{Held}
@@ -27,7 +27,7 @@ again_is p script s taken all lost begun one two three head lent standing text b
 
 pub ruleset telling = (lined, again_is)
 
-pub lost_is : (script used : List ℕ) (d : Held) (p s : Program) (places : List (Option Break)) (begun one lent text : List ℕ) → begun ≡ [] → one ≡ begun ++ lost_text p.decls s places → p ≡ d.trail.program → places ≡ d.breaks → lent ≡ one
+pub lost_is : (script used : List ℕ) (d : Held) (p s : Program) (places : List (Option Breakpoint)) (begun one lent text : List ℕ) → begun ≡ [] → one ≡ begun ++ lost_text p.decls s places → p ≡ d.trail.program → places ≡ d.breaks → lent ≡ one
     → used ≡ script → text ≡ marked used lent → text ≡ lost_said script d s
 lost_is script used d p s places begun one lent text b h e f l u k =
     k ∙ ap (λ z. marked z lent) u

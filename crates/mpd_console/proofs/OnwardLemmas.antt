@@ -9,7 +9,7 @@ use Rattle.mpd_model.specs.steps.World.{World}
 use Rattle.mpd_model.specs.runs.Running.{all_applied, stop_of}
 use Rattle.mpd_model.specs.runs.Trail.{Trail, forgotten}
 use Rattle.mpd_policy.specs.Single.{ran_on}
-use Rattle.mpd_model.specs.declared.breakpoint.Break.{Break}
+use Rattle.mpd_model.specs.declared.breakpoint.Breakpoint.{Breakpoint}
 use Rattle.mpd_model.specs.runs.Breakpoints.{no_breaks, lowest_free}
 use Rattle.mpd_console.specs.Onward.{alone, frees, is_local_of, is_local_at, depth_before, steps_by, steps_to, steps_to_wake, steps_with}
 
@@ -18,19 +18,19 @@ first_is_free : lowest_free no_breaks ≡ Some 0
 first_is_free = refl
 
 -- the lowest place of none that are taken is the first
-pub added_alone : (b : Break) (places all : List (Option Break)) (number : Option ℕ) → places ≡ no_breaks → number ≡ lowest_free places → IfSome number (λ k. all ≡ slice_set places k (Some b)) → all ≡ alone b
+pub added_alone : (b : Breakpoint) (places all : List (Option Breakpoint)) (number : Option ℕ) → places ≡ no_breaks → number ≡ lowest_free places → IfSome number (λ k. all ≡ slice_set places k (Some b)) → all ≡ alone b
 added_alone b places all number none is set =
     let first : number ≡ Some 0 = is ∙ ap lowest_free none ∙ first_is_free in
     subst (λ o. IfSome o (λ k. all ≡ slice_set places k (Some b))) first set ∙ ap (λ p. slice_set p 0 (Some b)) none
 
-pub stop_is : (t u : Trail) (w v : World) (b : List (Option Break)) (c : Break) (k : ℕ) (s : Stop) → u ≡ forgotten t → v ≡ w → b ≡ alone c → s ≡ stop_of (ran_on u.program b STEPS_MAX u.depth v) → k ≡ steps_by s → k ≡ steps_to t w c
+pub stop_is : (t u : Trail) (w v : World) (b : List (Option Breakpoint)) (c : Breakpoint) (k : ℕ) (s : Stop) → u ≡ forgotten t → v ≡ w → b ≡ alone c → s ≡ stop_of (ran_on u.program b STEPS_MAX u.depth v) → k ≡ steps_by s → k ≡ steps_to t w c
 unfolding steps_to
 stop_is t u w v b c k s copied there only ran e =
     e ∙ ap steps_by
     (ran ∙ ap (λ (x : Trail). stop_of (ran_on x.program b STEPS_MAX x.depth v)) copied ∙ ap (λ x. stop_of (ran_on t.program b STEPS_MAX t.depth x)) there
     ∙ ap (λ x. stop_of (ran_on t.program x STEPS_MAX t.depth w)) only)
 
-pub wake_is : (t u after : Trail) (w v : World) (b : List (Option Break)) (p k : ℕ) (since : List Step) → u ≡ forgotten t → v ≡ w → b ≡ no_breaks → after ≡ all_applied u (ran_on u.program b STEPS_MAX u.depth v).steps → since ≡ drop t.depth after.steps → k ≡ steps_with (position (frees p) since)
+pub wake_is : (t u after : Trail) (w v : World) (b : List (Option Breakpoint)) (p k : ℕ) (since : List Step) → u ≡ forgotten t → v ≡ w → b ≡ no_breaks → after ≡ all_applied u (ran_on u.program b STEPS_MAX u.depth v).steps → since ≡ drop t.depth after.steps → k ≡ steps_with (position (frees p) since)
     → k ≡ steps_to_wake t w p
 unfolding steps_to_wake
 wake_is t u after w v b p k since copied there none ran cut e =

@@ -2,7 +2,7 @@
 use Rattle.std.proofs.Common.{◌≡◌, ℕ, ◌-◌, ◌<◌, ◌≤◌, Bool, true, false, List, [], ◌∷◌, ◌++◌, length, take, nat_lt, Option, Some, None, refl, ap, sym, ◌∙◌, arith, subst, inl, inr, append_assoc, append-nil}
 use Rattle.std.proofs.lemmas.Bool.Decides.{nat_tests}
 use Rattle.std.specs.Prelude.{option_and_then, IfSome}
-use Rattle.mpd_model.specs.declared.breakpoint.Break.{Break}
+use Rattle.mpd_model.specs.declared.breakpoint.Breakpoint.{Breakpoint}
 use Rattle.mpd_model.specs.steps.World.{World}
 use Rattle.mpd_model.specs.runs.Trail.{Trail, IsReached, IsRun, done_steps, world_of}
 use Rattle.mpd_trail.specs.DebuggerViews.{DebuggerView, standing_of}
@@ -53,7 +53,7 @@ world_at s d r e = ap world_of (sym e) ∙ r.world
 told_at : (tell : Trail → World → List ℕ) (s : Held) (d : DebuggerView) → IsReached (standing_of d) → d.trail ≡ s.trail → tell d.trail d.world ≡ at_world (tell s.trail) (world_of s.trail)
 told_at tell s d r e = ap (λ t. tell t d.world) e ∙ sym (ap (at_world (tell s.trail)) (world_at s d r e))
 
-pub replied : (p : Look) (script : List ℕ) (s : Held) (d : DebuggerView) (places : List (Option Break)) (x : Word) (lead begun one lent text : List ℕ) (k : Known) (r : Reply) → IsReached (standing_of d) → d.trail ≡ s.trail → places ≡ s.breaks
+pub replied : (p : Look) (script : List ℕ) (s : Held) (d : DebuggerView) (places : List (Option Breakpoint)) (x : Word) (lead begun one lent text : List ℕ) (k : Known) (r : Reply) → IsReached (standing_of d) → d.trail ≡ s.trail → places ≡ s.breaks
     → begun ≡ [] → one ≡ begun ++ reply_text script d.trail d.world places x lead k r → lent ≡ one → text ≡ said_marked p script s lent → text ≡ reply_said p script s x lead k r
 replied p script s d places x lead begun one lent text k r reached e pl b h l m =
     let u : one ≡ reply_text script d.trail d.world s.breaks x lead k r = h ∙ ap (λ z. z ++ reply_text script d.trail d.world places x lead k r) b ∙ ap (λ z. reply_text script d.trail d.world z x lead k r) pl in
@@ -65,7 +65,7 @@ led s d x text reached e h = h ∙ told_at (λ t w. lead_text t w x) s d reached
 pub known : (s : Held) (d : DebuggerView) (x : Word) (k : Known) → IsReached (standing_of d) → d.trail ≡ s.trail → k ≡ way_known d.trail d.world x → k ≡ known_in s x
 known s d x k reached e h = h ∙ ap (λ t. way_known t d.world x) e ∙ sym (ap (known_at s.trail x) (world_at s d reached e))
 
-pub looked : (p : Look) (q : Bool) (script : List ℕ) (s : Held) (d : DebuggerView) (places : List (Option Break)) (x : Word) (begun one lent none two text : List ℕ) → IsReached (standing_of d) → d.trail ≡ s.trail → places ≡ s.breaks
+pub looked : (p : Look) (q : Bool) (script : List ℕ) (s : Held) (d : DebuggerView) (places : List (Option Breakpoint)) (x : Word) (begun one lent none two text : List ℕ) → IsReached (standing_of d) → d.trail ≡ s.trail → places ≡ s.breaks
     → q ≡ prompts_behind p.is_prompting x → begun ≡ [] → one ≡ begun ++ look_text d.trail d.world places script x → lent ≡ one → none ≡ [] → two ≡ none ++ laid_out p.width script x lent → text ≡ two ++ prompt q s → text ≡ look_said p script s x
 looked p q script s d places x begun one lent none two text reached e pl is b h l n m k =
     let u : one ≡ look_text d.trail d.world s.breaks script x = h ∙ ap (λ z. z ++ look_text d.trail d.world places script x) b ∙ ap (λ z. look_text d.trail d.world z script x) pl in

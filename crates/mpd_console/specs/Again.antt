@@ -3,8 +3,8 @@ use Rattle.std.specs.Prelude.{ℕ, suc, ◌+◌, ◌++◌, Bool, true, false, if
 use Rattle.std.specs.List.{range_with_len}
 use Rattle.std.specs.Fmt.{decimal}
 use Rattle.mpd_model.specs.declared.limits.TheConstants.{BREAKS_MAX}
-use Rattle.mpd_model.specs.declared.breakpoint.Break.{Break}
-use Rattle.mpd_model.specs.declared.breakpoint.Break.TheVariants as on
+use Rattle.mpd_model.specs.declared.breakpoint.Breakpoint.{Breakpoint}
+use Rattle.mpd_model.specs.declared.breakpoint.Breakpoint.TheVariants as on
 use Rattle.mpd_model.specs.declared.read_fault.ReadFault.{ReadFault}
 use Rattle.mpd_model.specs.declared.step.Step.{Step}
 use Rattle.mpd_model.specs.script.Declaration.{Declared}
@@ -37,16 +37,16 @@ use Rattle.mpd_console.specs.Says.{said, asking, at_world}
 -- ---- breakpoints, as the script that is read again has their names
 
 -- the breakpoint that a word sets
-abbrev pub break_in : Word → Option Break
+abbrev pub break_in : Word → Option Breakpoint
 break_in (word.Break b) = Some b
 break_in other = None
 
-abbrev pub break_of : Line → Option Break
+abbrev pub break_of : Line → Option Breakpoint
 break_of (Says x) = break_in x
 break_of other = None
 
 -- the rank that a breakpoint is about
-abbrev pub rank_meant : Break → Option ℕ
+abbrev pub rank_meant : Breakpoint → Option ℕ
 rank_meant (on.Line n of when) = of
 rank_meant (on.Match n of) = of
 rank_meant (on.Rank p) = Some p
@@ -58,35 +58,35 @@ is_below ranks None = true
 is_below ranks (Some p) = nat_lt p ranks
 
 -- one of a rank that isn't there is none
-abbrev pub with_rank : ℕ → Option Break → Option Break
+abbrev pub with_rank : ℕ → Option Breakpoint → Option Breakpoint
 with_rank ranks None = None
 with_rank ranks (Some b) = if is_below ranks (rank_meant b) then Some b else None
 
 -- the line that sets a breakpoint, by the names of a script
-abbrev pub break_words : List Declared → Break → List ℕ
+abbrev pub break_words : List Declared → Breakpoint → List ℕ
 break_words ds b = codes "break " ++ break_text ds b
 
 -- A breakpoint of one script is, in another, the one that the line sets there that sets it here; or none.
-abbrev pub break_again : List Declared → Program → Break → Option Break
+abbrev pub break_again : List Declared → Program → Breakpoint → Option Breakpoint
 break_again ds s b = with_rank s.ranks (break_of (line_of s.decls (break_words ds b)))
 
-abbrev pub place_again : List Declared → Program → Option Break → Option Break
+abbrev pub place_again : List Declared → Program → Option Breakpoint → Option Breakpoint
 place_again ds s p = option_and_then (break_again ds s) p
 
 -- all places, by number
-abbrev pub places_again : List Declared → Program → List (Option Break) → List (Option Break)
+abbrev pub places_again : List Declared → Program → List (Option Breakpoint) → List (Option Breakpoint)
 places_again ds s places = flat_map (λ n. place_again ds s (break_at places n) ∷ []) (range_with_len 0 BREAKS_MAX)
 
 -- what is told of one that can't be set there
-abbrev pub lost_by : List Declared → ℕ → Break → Option Break → List ℕ
+abbrev pub lost_by : List Declared → ℕ → Breakpoint → Option Breakpoint → List ℕ
 lost_by ds n b None = codes "not set again: " ++ break_line ds n b
 lost_by ds n b (Some c) = []
 
-abbrev pub lost_of : List Declared → Program → ℕ → Option Break → List ℕ
+abbrev pub lost_of : List Declared → Program → ℕ → Option Breakpoint → List ℕ
 lost_of ds s n None = []
 lost_of ds s n (Some b) = lost_by ds n b (break_again ds s b)
 
-abbrev pub lost_text : List Declared → Program → List (Option Break) → List ℕ
+abbrev pub lost_text : List Declared → Program → List (Option Breakpoint) → List ℕ
 lost_text ds s places = flat_map (λ n. lost_of ds s n (break_at places n)) (range_with_len 0 BREAKS_MAX)
 
 -- the same as a console tells it, with the places of marks of its script
@@ -101,23 +101,23 @@ asked s c = (respond s (asking c)).1
 
 -- A session sets a breakpoint in the lowest place that is free. So that each comes to its own place, one of rank 0 stands in a place
 -- that is to be free, until all are set.
-abbrev pub or_filler : Option Break → Break
+abbrev pub or_filler : Option Breakpoint → Breakpoint
 or_filler None = on.Rank 0
 or_filler (Some b) = b
 
-abbrev pub filled : Held → List (Option Break) → Held
+abbrev pub filled : Held → List (Option Breakpoint) → Held
 filled s [] = s
 filled s (p ∷ places) = filled (asked s (command.Break (or_filler p))) places
 
-abbrev pub freed : Held → ℕ → Option Break → Held
+abbrev pub freed : Held → ℕ → Option Breakpoint → Held
 freed s n None = asked s (command.Unbreak n)
 freed s n (Some b) = s
 
-abbrev pub all_freed : Held → ℕ → List (Option Break) → Held
+abbrev pub all_freed : Held → ℕ → List (Option Breakpoint) → Held
 all_freed s n [] = s
 all_freed s n (p ∷ places) = all_freed (freed s n p) (n + 1) places
 
-abbrev pub with_breaks : Held → List (Option Break) → Held
+abbrev pub with_breaks : Held → List (Option Breakpoint) → Held
 with_breaks s places = all_freed (filled s places) 0 places
 
 -- Steps are taken one after another, as far as they fit: up to the first that the session refuses.
@@ -140,7 +140,7 @@ retaken s [] = s
 retaken s (a ∷ steps) = if fits s a then retaken (asked s (command.Step a)) steps else asked s (command.Step a)
 
 -- a session that has these breakpoints again, and has taken these steps again as far as they fit
-abbrev pub gone_again : Held → List (Option Break) → List Step → Held
+abbrev pub gone_again : Held → List (Option Breakpoint) → List Step → Held
 gone_again s places steps = retaken (with_breaks s places) steps
 
 -- ---- what is told
@@ -160,7 +160,7 @@ standing_said script s = marked script (at_world (λ w. standing_text script s.t
 abbrev pub again_said : Look → List ℕ → Held → ℕ → ℕ → List ℕ → List ℕ
 again_said p script s taken all lost = said p s (again_line taken all ++ lost ++ standing_said script s)
 
-abbrev pub told_again : Look → List ℕ → Held → List (Option Break) → List Step → List ℕ → List ℕ
+abbrev pub told_again : Look → List ℕ → Held → List (Option Breakpoint) → List Step → List ℕ → List ℕ
 told_again p script s places steps lost = again_said p script (gone_again s places steps) (fitting (with_breaks s places) steps) (length steps) lost
 
 -- why a script isn't read again

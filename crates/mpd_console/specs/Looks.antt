@@ -4,7 +4,7 @@ use Rattle.std.specs.Fmt.{decimal}
 use Rattle.std.specs.List.{flat_map, range_with_len}
 use Rattle.mpd_model.specs.declared.limits.TheConstants.{BREAKS_MAX}
 use Rattle.mpd_model.specs.declared.step.CallId.{CallId}
-use Rattle.mpd_model.specs.declared.breakpoint.Break.{Break}
+use Rattle.mpd_model.specs.declared.breakpoint.Breakpoint.{Breakpoint}
 use Rattle.mpd_model.specs.script.Declaration.{Declared}
 use Rattle.mpd_model.specs.script.Program.{Program}
 use Rattle.mpd_model.specs.steps.World.{World, rank_numbers, call_at}
@@ -34,14 +34,14 @@ no_such_call = line (codes "refused: there is no such call")
 
 -- ---- breakpoints
 
-abbrev pub break_line_at : List Declared → List (Option Break) → ℕ → List ℕ
+abbrev pub break_line_at : List Declared → List (Option Breakpoint) → ℕ → List ℕ
 break_line_at ds places n = break_line_of ds n (break_at places n)
 
 abbrev pub or_none : List ℕ → List ℕ
 or_none [] = line (codes "no breakpoint")
 or_none (b ∷ lines) = b ∷ lines
 
-abbrev pub breaks_text : List Declared → List (Option Break) → List ℕ
+abbrev pub breaks_text : List Declared → List (Option Breakpoint) → List ℕ
 breaks_text ds places = or_none (flat_map (break_line_at ds places) (range_with_len 0 BREAKS_MAX))
 
 -- ---- of all ranks, or of one
@@ -92,7 +92,7 @@ whole_text t w = show_text t.program w t.depth (length t.steps)
 
 -- ---- all of them, given the text of the script
 
-abbrev pub look_text : Trail → World → List (Option Break) → List ℕ → Word → List ℕ
+abbrev pub look_text : Trail → World → List (Option Breakpoint) → List ℕ → Word → List ℕ
 look_text t w places text word.Breaks = breaks_text t.program.decls places
 look_text t w places text (word.List rank) = script_text t.program w text rank
 look_text t w places text (word.Print n rank) = print_text t.program w n rank

@@ -4,8 +4,8 @@ use Rattle.std.specs.Fmt.{decimal}
 use Rattle.mpd_model.specs.declared.step.Step.{Step}
 use Rattle.mpd_model.specs.declared.decision.Decision.{Decision}
 use Rattle.mpd_model.specs.declared.decision.Decision.TheVariants.{Forced, Choice, Leaf}
-use Rattle.mpd_model.specs.declared.breakpoint.Break.{Break}
-use Rattle.mpd_model.specs.declared.breakpoint.Break.TheVariants as on
+use Rattle.mpd_model.specs.declared.breakpoint.Breakpoint.{Breakpoint}
+use Rattle.mpd_model.specs.declared.breakpoint.Breakpoint.TheVariants as on
 use Rattle.mpd_model.specs.declared.breakpoint.Cause.{Cause}
 use Rattle.mpd_model.specs.declared.breakpoint.Cause.TheVariants as for
 use Rattle.mpd_model.specs.declared.breakpoint.Stop.{Stop}
@@ -233,24 +233,24 @@ moved_line depth (b ∷ lead) = line (decimal depth ++ 32 ∷ b ∷ lead)
 
 -- ---- the line of a breakpoint
 
-abbrev pub break_parts : List Declared → ℕ → Break → List ℕ
+abbrev pub break_parts : List Declared → ℕ → Breakpoint → List ℕ
 break_parts ds n b = decimal n ++ codes ": " ++ line (break_text ds b)
 
-abbrev pub break_line : List Declared → ℕ → Break → List ℕ
+abbrev pub break_line : List Declared → ℕ → Breakpoint → List ℕ
 break_line ds n b = codes "breakpoint " ++ break_parts ds n b
 
-abbrev pub break_line_of : List Declared → ℕ → Option Break → List ℕ
+abbrev pub break_line_of : List Declared → ℕ → Option Breakpoint → List ℕ
 break_line_of ds n None = []
 break_line_of ds n (Some b) = break_line ds n b
 
 -- ---- what is told of a single step
 
 -- the lowest breakpoint that the last step hits, where a step was told
-abbrev pub told_hit : List (Option Break) → Trail → List ℕ → Option ℕ
+abbrev pub told_hit : List (Option Breakpoint) → Trail → List ℕ → Option ℕ
 told_hit places t [] = None
 told_hit places t (b ∷ lead) = last_hit places t
 
-abbrev pub hit_line : List Declared → List (Option Break) → Option ℕ → List ℕ
+abbrev pub hit_line : List Declared → List (Option Breakpoint) → Option ℕ → List ℕ
 hit_line ds places None = []
 hit_line ds places (Some n) = break_line_of ds n (break_at places n)
 
@@ -265,15 +265,15 @@ along_line (word.UntilRank p) None = after_choice
 along_line (word.Finish p) None = after_choice
 along_line other hit = []
 
-abbrev pub hit_text : List Declared → List (Option Break) → Word → Option ℕ → List ℕ
+abbrev pub hit_text : List Declared → List (Option Breakpoint) → Word → Option ℕ → List ℕ
 hit_text ds places x hit = hit_line ds places hit ++ along_line x hit
 
 -- after a step that is told
-abbrev pub stepped_text : Trail → List (Option Break) → Word → List ℕ → List ℕ
+abbrev pub stepped_text : Trail → List (Option Breakpoint) → Word → List ℕ → List ℕ
 stepped_text t places x [] = []
 stepped_text t places x (b ∷ lead) = hit_text t.program.decls places x (last_hit places t)
 
-abbrev pub move_text : List ℕ → Trail → World → List (Option Break) → Word → ℕ → List ℕ → Known → List ℕ
+abbrev pub move_text : List ℕ → Trail → World → List (Option Breakpoint) → Word → ℕ → List ℕ → Known → List ℕ
 move_text text t w places x depth lead k = moved_line depth lead ++ news_text k t w ++ stepped_text t places x lead ++ standing_text text t w
 
 -- ---- what is told of a run
@@ -287,7 +287,7 @@ abbrev pub before_words : Word → List ℕ
 before_words word.RunBack = codes "before "
 before_words other = []
 
-abbrev pub break_cause : List Declared → Word → ℕ → Option Break → List ℕ
+abbrev pub break_cause : List Declared → Word → ℕ → Option Breakpoint → List ℕ
 break_cause ds x n None = []
 break_cause ds x n (Some b) = before_words x ++ break_line ds n b
 
@@ -308,7 +308,7 @@ most_line (word.UntilRank p) = gone_on_line p
 most_line other = most_words other
 
 -- why a run stopped, where that isn't told by where it stands
-abbrev pub cause_line : List Declared → List (Option Break) → Word → Cause → List ℕ
+abbrev pub cause_line : List Declared → List (Option Breakpoint) → Word → Cause → List ℕ
 cause_line ds places x for.Leaf = []
 cause_line ds places x for.Choice = []
 cause_line ds places x for.Max = most_line x
@@ -323,13 +323,13 @@ ran_line x depth count = line (count_words count ++ back_words x ++ codes ", dep
 abbrev pub statement_line : List ℕ → ℕ → List ℕ
 statement_line lines n = if begins lines n then [] else line (codes "no statement begins at line " ++ decimal n)
 
-abbrev pub run_text : List ℕ → Trail → World → List (Option Break) → Word → ℕ → Stop → Known → List ℕ
+abbrev pub run_text : List ℕ → Trail → World → List (Option Breakpoint) → Word → ℕ → Stop → Known → List ℕ
 run_text text t w places x depth stop k =
     ran_line x depth stop.steps ++ news_text k t w ++ cause_line t.program.decls places x stop.cause ++ standing_text text t w
 
 -- ---- breakpoints
 
-abbrev pub break_note : List ℕ → Break → List ℕ
+abbrev pub break_note : List ℕ → Breakpoint → List ℕ
 break_note lines (on.Line n of when) = statement_line lines n
 break_note lines (on.Match n of) = statement_line lines n
 break_note lines other = []
@@ -354,7 +354,7 @@ no_rank = line (codes "refused: there is no such rank")
 abbrev pub line_range : ℕ → List ℕ
 line_range n = if is_line n then no_rank else no_line
 
-abbrev pub break_range : Break → List ℕ
+abbrev pub break_range : Breakpoint → List ℕ
 break_range (on.Line n of when) = line_range n
 break_range (on.Match n of) = line_range n
 break_range other = no_rank
@@ -386,7 +386,7 @@ refused_text text t w x r = refusal_line (asks_next w x) x r ++ (if stands_behin
 
 -- ---- what is told of a reply, after the request, given the text of the script
 
-abbrev pub answer_text : List ℕ → Trail → World → List (Option Break) → Word → List ℕ → Known → Answer → List ℕ
+abbrev pub answer_text : List ℕ → Trail → World → List (Option Breakpoint) → Word → List ℕ → Known → Answer → List ℕ
 answer_text text t w places x lead k (answer.Depth depth) = move_text text t w places x depth lead k
 answer_text text t w places x lead k (answer.Stepped depth a) = move_text text t w places x depth lead k
 answer_text text t w places x lead k (answer.Ran depth stop) = run_text text t w places x depth stop k
@@ -394,6 +394,6 @@ answer_text text t w places x lead k (answer.Added n) = added_line t.program x n
 answer_text text t w places x lead k answer.Removed = removed_line x
 answer_text text t w places x lead k other = []
 
-abbrev pub reply_text : List ℕ → Trail → World → List (Option Break) → Word → List ℕ → Known → Reply → List ℕ
+abbrev pub reply_text : List ℕ → Trail → World → List (Option Breakpoint) → Word → List ℕ → Known → Reply → List ℕ
 reply_text text t w places x lead k (reply.Refused r) = refused_text text t w x r
 reply_text text t w places x lead k (reply.Done v a) = answer_text text t w places x lead k a

@@ -5,8 +5,8 @@ use Rattle.mpd_model.specs.declared.limits.TheConstants.{STEPS_MAX}
 use Rattle.mpd_session.specs.declared.limits.TheConstants.{LINES_MAX}
 use Rattle.mpd_model.specs.declared.step.Step.{Step}
 use Rattle.mpd_model.specs.declared.step.Step.TheVariants.{Local, Match, Wake, WakeAny, Release}
-use Rattle.mpd_model.specs.declared.breakpoint.Break.{Break}
-use Rattle.mpd_model.specs.declared.breakpoint.Break.TheVariants as on
+use Rattle.mpd_model.specs.declared.breakpoint.Breakpoint.{Breakpoint}
+use Rattle.mpd_model.specs.declared.breakpoint.Breakpoint.TheVariants as on
 use Rattle.mpd_model.specs.declared.breakpoint.Cause.{Cause}
 use Rattle.mpd_model.specs.declared.breakpoint.Cause.TheVariants as for
 use Rattle.mpd_model.specs.declared.breakpoint.Stop.{Stop}
@@ -27,11 +27,11 @@ abbrev pub begins : List ℕ → ℕ → Bool
 begins lines n = list_any (λ l. l == n) lines
 
 -- a breakpoint on a line, of any rank, and whatever holds there
-abbrev pub on_line : ℕ → Break
+abbrev pub on_line : ℕ → Breakpoint
 on_line n = on.Line n None None
 
 -- a breakpoint, and no other
-abbrev pub alone : Break → List (Option Break)
+abbrev pub alone : Breakpoint → List (Option Breakpoint)
 alone b = slice_set no_breaks 0 (Some b)
 
 -- as many steps as a run made that stopped for a breakpoint; else as many as there can be
@@ -43,7 +43,7 @@ abbrev pub steps_by : Stop → ℕ
 steps_by s = steps_for s.steps s.cause
 
 -- how many steps a run takes to where one hits a breakpoint
-unfoldable pub steps_to : Trail → World → Break → ℕ
+unfoldable pub steps_to : Trail → World → Breakpoint → ℕ
 steps_to t w b = steps_by (stop_of (ran_on t.program (alone b) STEPS_MAX t.depth w))
 
 -- ---- up to the end of a call

@@ -14,7 +14,7 @@ use crate::opening::Opened;
 use crate::prompts::{marked_bytes, said, said_bytes};
 use mpd_code::{Code, Subject};
 use mpd_explain::push_standing;
-use mpd_model::{BREAKS_MAX, Break, ReadFault, Step};
+use mpd_model::{BREAKS_MAX, Breakpoint, ReadFault, Step};
 use mpd_names::push_break;
 use mpd_policy::{Breaks, decide};
 use mpd_runs::push_count;
@@ -29,13 +29,13 @@ pub struct Kept {
     pub steps: Vec<Step>,
     /// The breakpoints by number, as the script that was read again has them: none in a place that is free, and of one that can't be
     /// set there.
-    pub breaks: Vec<Option<Break>>,
+    pub breaks: Vec<Option<Breakpoint>>,
     /// A line for each of the latter, with the places of marks of the script that was.
     pub lost: Vec<u8>,
 }
 
 /// The breakpoint that a line sets.
-fn break_of(line: Line) -> Option<Break>
+fn break_of(line: Line) -> Option<Breakpoint>
     ensures { result ≡ spec.break_of line }
 {
     match line {
@@ -45,13 +45,13 @@ fn break_of(line: Line) -> Option<Break>
 }
 
 /// The rank that a breakpoint is about, if it is of one.
-fn rank_meant(stop: Break) -> Option<usize>
+fn rank_meant(stop: Breakpoint) -> Option<usize>
     ensures { result ≡ spec.rank_meant stop }
 {
     match stop {
-        Break::Line { of, .. } | Break::Match { of, .. } => of,
-        Break::Rank(rank) => Some(rank),
-        Break::Change { rank, .. } | Break::Handle { rank, .. } => Some(rank),
+        Breakpoint::Line { of, .. } | Breakpoint::Match { of, .. } => of,
+        Breakpoint::Rank(rank) => Some(rank),
+        Breakpoint::Change { rank, .. } | Breakpoint::Handle { rank, .. } => Some(rank),
     }
 }
 
@@ -66,7 +66,7 @@ fn is_below(ranks: usize, rank: Option<usize>) -> bool
 }
 
 /// A breakpoint, if its rank is there.
-fn with_rank(ranks: usize, stop: Option<Break>) -> Option<Break>
+fn with_rank(ranks: usize, stop: Option<Breakpoint>) -> Option<Breakpoint>
     ensures { result ≡ spec.with_rank ranks stop }
 {
     match stop {
@@ -76,7 +76,7 @@ fn with_rank(ranks: usize, stop: Option<Break>) -> Option<Break>
 }
 
 /// The line that sets a breakpoint, by the names of a script.
-fn break_words(alloc: Global, code: &Code, stop: Break) -> Result<String, AllocError>
+fn break_words(alloc: Global, code: &Code, stop: Breakpoint) -> Result<String, AllocError>
     ensures { IfOk result (λ t. string_bytes t ≡ spec.break_words code.now.program.decls stop) }
 {
     let mut words = String::new(alloc);
@@ -90,8 +90,8 @@ fn break_again(
     alloc: Global,
     old: &Code,
     new: &Code,
-    stop: Break,
-) -> Result<Option<Break>, AllocError>
+    stop: Breakpoint,
+) -> Result<Option<Breakpoint>, AllocError>
     ensures { IfOk result (λ o. o ≡ spec.break_again old.now.program.decls new.now.program stop) }
 {
     let words = break_words(alloc, old, stop)?;
@@ -106,10 +106,10 @@ fn place_again(
     new: &Code,
     breaks: &Breaks,
     number: usize,
-) -> Result<Option<Break>, AllocError>
+) -> Result<Option<Breakpoint>, AllocError>
     ensures { IfOk result (λ o. o ≡ spec.place_again old.now.program.decls new.now.program (break_at breaks.now number)) }
 {
-    match breaks.get(number) {
+    match breaks.breakpoint(number) {
         None => Ok(None),
         Some(stop) => break_again(alloc, old, new, stop),
     }
@@ -121,7 +121,7 @@ fn places_again(
     old: &Code,
     new: &Code,
     breaks: &Breaks,
-) -> Result<Vec<Option<Break>>, AllocError>
+) -> Result<Vec<Option<Breakpoint>>, AllocError>
     ensures { IfOk result (λ v. v.items ≡ spec.places_again old.now.program.decls new.now.program breaks.now) }
 {
     let mut places = Vec::new(alloc);
@@ -142,7 +142,7 @@ fn push_lost_at(
 ) -> Result<(), AllocError>
     ensures { OnOk result (string_bytes out.new ≡ string_bytes out.old ++ spec.lost_of old.now.program.decls new.now.program number (break_at breaks.now number)) }
 {
-    let Some(stop) = breaks.get(number) else {
+    let Some(stop) = breaks.breakpoint(number) else {
         return Ok(());
     };
     match break_again(*out.allocator(), old, new, stop)? {
@@ -214,11 +214,11 @@ fn ask(alloc: Global, session: &mut Session<'_>, command: Command) -> Result<boo
 }
 
 /// The breakpoint that stands in a place, or one in its place that is taken away again.
-fn or_filler(place: Option<Break>) -> Break
+fn or_filler(place: Option<Breakpoint>) -> Breakpoint
     ensures { result ≡ spec.or_filler place }
 {
     match place {
-        None => Break::Rank(0),
+        None => Breakpoint::Rank(0),
         Some(stop) => stop,
     }
 }
@@ -227,7 +227,7 @@ fn or_filler(place: Option<Break>) -> Break
 fn fill(
     alloc: Global,
     session: &mut Session<'_>,
-    places: &[Option<Break>],
+    places: &[Option<Breakpoint>],
 ) -> Result<(), AllocError>
     ensures { OnOk result (session.new ≡ spec.filled session.old places.now) }
 {
@@ -242,7 +242,7 @@ fn free_place(
     alloc: Global,
     session: &mut Session<'_>,
     number: usize,
-    place: Option<Break>,
+    place: Option<Breakpoint>,
 ) -> Result<(), AllocError>
     ensures { OnOk result (session.new ≡ spec.freed session.old number place) }
 {
@@ -257,7 +257,7 @@ fn free_place(
 fn free_places(
     alloc: Global,
     session: &mut Session<'_>,
-    places: &[Option<Break>],
+    places: &[Option<Breakpoint>],
 ) -> Result<(), AllocError>
     ensures { OnOk result (session.new ≡ spec.all_freed session.old 0 places.now) }
 {

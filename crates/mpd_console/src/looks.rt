@@ -38,7 +38,7 @@ fn push_break_at(
 ) -> Result<(), AllocError>
     ensures { OnOk result (string_bytes out.new ≡ string_bytes out.old ++ spec.break_line_at decls.now breaks.now number) }
 {
-    match breaks.get(number) {
+    match breaks.breakpoint(number) {
         None => Ok(()),
         Some(stop) => push_break_line(out, decls, number, stop),
     }

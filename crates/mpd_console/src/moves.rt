@@ -19,7 +19,7 @@ use crate::standing::{Scene, standing_of};
 use mpd_code::Code;
 use mpd_core::Core;
 use mpd_explain::{push_standing, push_step};
-use mpd_model::{Break, Cause, Decision, Decl, STEPS_MAX, Step, Stop};
+use mpd_model::{Breakpoint, Cause, Decision, Decl, STEPS_MAX, Step, Stop};
 use mpd_names::push_break;
 use mpd_policy::{Breaks, decide, only_step, run_on, sole};
 use mpd_runs::{Way, push_count};
@@ -416,7 +416,7 @@ fn push_break_parts(
     begun: &str,
     decls: &[Decl],
     number: usize,
-    stop: Break,
+    stop: Breakpoint,
 ) -> Result<(), AllocError>
     ensures { OnOk result (string_bytes out.new ≡ string_bytes out.old ++ (begun.now ++ spec.break_parts decls.now number stop)) }
 {
@@ -431,7 +431,7 @@ pub fn push_break_line(
     out: &mut String,
     decls: &[Decl],
     number: usize,
-    stop: Break,
+    stop: Breakpoint,
 ) -> Result<(), AllocError>
     ensures { OnOk result (string_bytes out.new ≡ string_bytes out.old ++ spec.break_line decls.now number stop) }
 {
@@ -454,7 +454,7 @@ fn push_break_cause(
     decls: &[Decl],
     word: Word,
     number: usize,
-    stop: Option<Break>,
+    stop: Option<Breakpoint>,
 ) -> Result<(), AllocError>
     ensures { OnOk result (string_bytes out.new ≡ string_bytes out.old ++ spec.break_cause decls.now word number stop) }
 {
@@ -501,7 +501,13 @@ fn push_cause(
         Cause::Max => push_most(out, word),
         Cause::Full => out.push_str("stopped: no more than 1000000 steps are kept\n"),
         Cause::Start => out.push_str("at the start\n"),
-        Cause::Break(number) => push_break_cause(out, decls, word, number, breaks.get(number)),
+        Cause::Break(number) => push_break_cause(
+            out,
+            decls,
+            word,
+            number,
+            breaks.breakpoint(number),
+        ),
     }
 }
 
@@ -534,12 +540,14 @@ fn push_statement(out: &mut String, lines: &[usize], line: usize) -> Result<(), 
 }
 
 /// Adds that to a breakpoint of a line or of a match.
-fn push_note(out: &mut String, lines: &[usize], stop: Break) -> Result<(), AllocError>
+fn push_note(out: &mut String, lines: &[usize], stop: Breakpoint) -> Result<(), AllocError>
     ensures { OnOk result (string_bytes out.new ≡ string_bytes out.old ++ spec.break_note lines.now stop) }
 {
     match stop {
-        Break::Line { line, .. } | Break::Match { line, .. } => push_statement(out, lines, line),
-        Break::Rank(_) | Break::Change { .. } | Break::Handle { .. } => Ok(()),
+        Breakpoint::Line { line, .. } | Breakpoint::Match { line, .. } => push_statement(
+            out, lines, line,
+        ),
+        Breakpoint::Rank(_) | Breakpoint::Change { .. } | Breakpoint::Handle { .. } => Ok(()),
     }
 }
 
@@ -601,7 +609,9 @@ fn range_line(word: Word) -> &'static str
     ensures { result.now ≡ spec.range_line word }
 {
     match word {
-        Word::Break(Break::Line { line, .. } | Break::Match { line, .. }) => line_range(line),
+        Word::Break(Breakpoint::Line { line, .. } | Breakpoint::Match { line, .. }) => line_range(
+            line,
+        ),
         Word::Until(_) => "refused: lines are 1 to 65537\n",
         Word::Break(_) => "refused: there is no such rank\n",
         _ => "refused: 1 to 1000000 steps can be asked for\n",
@@ -696,7 +706,7 @@ fn push_hit(
     let Some(number) = hit else {
         return Ok(());
     };
-    match breaks.get(number) {
+    match breaks.breakpoint(number) {
         None => Ok(()),
         Some(stop) => push_break_line(out, decls, number, stop),
     }

@@ -6,7 +6,7 @@ ghost use Rattle.mpd_console.specs.Onward as spec;
 ghost use Rattle.mpd_console.specs.Moves as moves;
 
 use crate::moves::{Doing, begins, run_command};
-use mpd_model::{Break, Cause, STEPS_MAX, Step, Stop};
+use mpd_model::{Breakpoint, Cause, STEPS_MAX, Step, Stop};
 use mpd_names::is_blocked;
 use mpd_policy::{Breaks, run_on};
 use mpd_session::Command;
@@ -24,10 +24,10 @@ pub(crate) fn is_line(line: usize) -> bool
 }
 
 /// A breakpoint on a line, of any rank, and whatever holds there.
-fn on_line(line: usize) -> Break
+fn on_line(line: usize) -> Breakpoint
     ensures { result ≡ spec.on_line line }
 {
-    Break::Line {
+    Breakpoint::Line {
         line,
         of: None,
         when: None,
@@ -36,11 +36,11 @@ fn on_line(line: usize) -> Break
 
 /// One breakpoint, and no other.
 #[tactic(auto, using(crate::proofs::OnwardLemmas::added_alone))]
-fn alone(stop: Break) -> Breaks
+fn alone(stop: Breakpoint) -> Breaks
     ensures { result ≡ spec.alone stop }
 {
     let mut breaks = Breaks::new();
-    let _ = breaks.add(stop);
+    let _ = breaks.add_breakpoint(stop);
     breaks
 }
 
@@ -55,7 +55,7 @@ fn steps_by(stop: Stop) -> usize
 }
 
 /// How many steps a run on takes to where one hits a breakpoint. A copy of the debugger runs. An `Err` is want of memory.
-fn steps_to(alloc: Global, debugger: &Debugger<'_>, stop: Break) -> Result<usize, AllocError>
+fn steps_to(alloc: Global, debugger: &Debugger<'_>, stop: Breakpoint) -> Result<usize, AllocError>
     ensures { IfOk result (λ n. n ≡ spec.steps_to debugger.now.trail debugger.now.world stop) }
 {
     debugger.state_is_reached();
@@ -225,7 +225,7 @@ pub(crate) fn until_rank_doing(
     if !is_rank(debugger, rank) {
         return Ok(Doing::Looks);
     }
-    let max = steps_to(alloc, debugger, Break::Rank(rank))?;
+    let max = steps_to(alloc, debugger, Breakpoint::Rank(rank))?;
     Ok(Doing::Asks(up_to(alloc, debugger, max)?))
 }
 

@@ -270,12 +270,7 @@ pub fn split(
 }
 
 /// Adds the line of a leaf.
-fn push_leaf(
-    alloc: Global,
-    out: &mut String,
-    number: usize,
-    leaf: &Leaf,
-) -> Result<(), AllocError>
+fn push_leaf(alloc: Global, out: &mut String, number: usize, leaf: &Leaf) -> Result<(), AllocError>
     ensures { OnOk result (string_bytes out.new ≡ string_bytes out.old ++ leaf_line number (bare leaf.now)) }
 {
     write!(out, "leaf {number} [")?;
@@ -336,11 +331,7 @@ fn push_all(
 /// A report as text (docs/FORMATS.md, "Reports"): a line for each leaf; after that of a deadlock a
 /// line with its witness, if `witnesses` is set; last, how many leaves there are, and whether there
 /// are others. `Err` means that memory was refused.
-pub fn print_report(
-    alloc: Global,
-    report: &Report,
-    witnesses: bool,
-) -> Result<String, AllocError>
+pub fn print_report(alloc: Global, report: &Report, witnesses: bool) -> Result<String, AllocError>
     ensures { IfOk result (λ t. string_bytes t ≡ witnessed_text witnesses report.now.leaves.items report.now.more) }
 {
     let mut out = String::new(alloc);

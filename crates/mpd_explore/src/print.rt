@@ -48,7 +48,11 @@ pub fn push_choices(out: &mut String, choices: &[usize]) -> Result<(), AllocErro
 }
 
 /// Adds how a run ends.
-pub(crate) fn push_ending(alloc: Global, out: &mut String, ending: &Ending) -> Result<(), AllocError>
+pub(crate) fn push_ending(
+    alloc: Global,
+    out: &mut String,
+    ending: &Ending,
+) -> Result<(), AllocError>
     ensures { OnOk result (string_bytes out.new ≡ string_bytes out.old ++ ending_text ending.now) }
 {
     match ending {

@@ -14,7 +14,7 @@ pub struct Condition {
 
 /// What a run stops after (docs/DEFINITIONS.md, "Breakpoints").
 #[derive(Clone, Copy, Debug, PartialEq, Eq)]
-pub enum Break {
+pub enum Breakpoint {
     /// A rank comes to a statement of a line.
     Line {
         /// Which line, from 1.

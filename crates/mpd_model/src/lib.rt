@@ -23,7 +23,7 @@ pub mod text;
 pub mod token;
 pub mod words;
 
-pub use breakpoint::{Break, Cause, Condition, Stop};
+pub use breakpoint::{Breakpoint, Cause, Condition, Stop};
 pub use call::{
     Activity, Call, CallKind, Issue, MatchSet, Message, Mode, RecvCall, SendCall, StatusCells,
     Trap, WaitCall, WaitanyCall,

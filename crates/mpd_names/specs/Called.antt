@@ -4,8 +4,8 @@ use Rattle.std.specs.Fmt.{decimal}
 use Rattle.mpd_model.specs.declared.place.DeclKind.{DeclKind}
 use Rattle.mpd_model.specs.declared.place.DeclKind.TheVariants.{Variable, Handle}
 use Rattle.mpd_model.specs.declared.breakpoint.Condition.{Condition}
-use Rattle.mpd_model.specs.declared.breakpoint.Break.{Break}
-use Rattle.mpd_model.specs.declared.breakpoint.Break.TheVariants as on
+use Rattle.mpd_model.specs.declared.breakpoint.Breakpoint.{Breakpoint}
+use Rattle.mpd_model.specs.declared.breakpoint.Breakpoint.TheVariants as on
 use Rattle.mpd_model.specs.script.Declaration.{Declared}
 use Rattle.mpd_model.specs.texts.Texts.{meant_text, compared_text}
 use Rattle.mpd_names.specs.Cells.{kind_cells}
@@ -29,7 +29,7 @@ when_text ds None = []
 when_text ds (Some c) = condition_text ds c
 
 -- `line 9 rank 1 if x == 3`, `match 8 rank 0`, `rank 1`, `change 1 a[2]`; of a handle `change 1 r`
-abbrev pub break_text : List Declared → Break → List ℕ
+abbrev pub break_text : List Declared → Breakpoint → List ℕ
 break_text ds (on.Line n of when) = codes "line " ++ decimal n ++ meant_text of ++ when_text ds when
 break_text ds (on.Match n of) = codes "match " ++ decimal n ++ meant_text of
 break_text ds (on.Rank p) = codes "rank " ++ decimal p

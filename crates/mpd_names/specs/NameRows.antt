@@ -4,8 +4,8 @@ use Rattle.std.specs.Fmt.{digits}
 use Rattle.mpd_model.specs.declared.place.DeclKind.{DeclKind}
 use Rattle.mpd_model.specs.declared.place.DeclKind.TheVariants.{Variable, Handle}
 use Rattle.mpd_model.specs.declared.comparison.Comparison.TheVariants.{Equal, AtMost}
-use Rattle.mpd_model.specs.declared.breakpoint.Break.{Break}
-use Rattle.mpd_model.specs.declared.breakpoint.Break.TheVariants as on
+use Rattle.mpd_model.specs.declared.breakpoint.Breakpoint.{Breakpoint}
+use Rattle.mpd_model.specs.declared.breakpoint.Breakpoint.TheVariants as on
 use Rattle.mpd_model.specs.script.Declaration.{Declared}
 use Rattle.mpd_names.specs.declared.name.Named.{Named}
 use Rattle.mpd_names.specs.declared.name.NameFault.{NameFault}
@@ -46,7 +46,7 @@ pub row_names : map {B = List ℕ} (λ q. cell_name five q.0.0 q.0.1) names ≡ 
 unfolding digits
 row_names = refl
 
-abbrev stops : List (Break × List ℕ)
+abbrev stops : List (Breakpoint × List ℕ)
 stops =
     (on.Line 9 None None, codes "line 9") ∷ (on.Line 9 (Some 1) None, codes "line 9 rank 1") ∷ (on.Line 9 None (Some (record { cell = 2; comparison = AtMost; value = negsuc 11 })), codes "line 9 if a[1] <= -12")
     ∷ (on.Line 10 (Some 0) (Some (record { cell = 0; comparison = Equal; value = pos 3 })), codes "line 10 rank 0 if x == 3") ∷ (on.Match 12 None, codes "match 12") ∷ (on.Match 12 (Some 3), codes "match 12 rank 3") ∷ (on.Rank 2, codes "rank 2")

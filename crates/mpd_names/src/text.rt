@@ -4,7 +4,7 @@ ghost use Rattle.std.specs.Prelude.{◌≡◌, ◌++◌, OnOk, string_bytes};
 ghost use Rattle.mpd_names.specs.Called as called;
 
 use crate::cells::kind_cells;
-use mpd_model::{Break, Condition, Decl, DeclKind, push_compared, push_meant};
+use mpd_model::{Breakpoint, Condition, Decl, DeclKind, push_compared, push_meant};
 use std::alloc::AllocError;
 
 /// Adds the name of a cell of a declaration, with its index if it is an array.
@@ -58,25 +58,25 @@ fn push_when(out: &mut String, decls: &[Decl], when: Option<Condition>) -> Resul
 }
 
 /// Adds a breakpoint, as it was set.
-pub fn push_break(out: &mut String, decls: &[Decl], stop: Break) -> Result<(), AllocError>
+pub fn push_break(out: &mut String, decls: &[Decl], stop: Breakpoint) -> Result<(), AllocError>
     ensures { OnOk result (string_bytes out.new ≡ string_bytes out.old ++ called.break_text decls.now stop) }
 {
     match stop {
-        Break::Line { line, of, when } => {
+        Breakpoint::Line { line, of, when } => {
             write!(out, "line {line}")?;
             push_meant(out, of)?;
             push_when(out, decls, when)
         }
-        Break::Match { line, of } => {
+        Breakpoint::Match { line, of } => {
             write!(out, "match {line}")?;
             push_meant(out, of)
         }
-        Break::Rank(rank) => write!(out, "rank {rank}"),
-        Break::Change { rank, cell } => {
+        Breakpoint::Rank(rank) => write!(out, "rank {rank}"),
+        Breakpoint::Change { rank, cell } => {
             write!(out, "change {rank} ")?;
             push_cell_name(out, decls, DeclKind::Variable, cell)
         }
-        Break::Handle { rank, handle } => {
+        Breakpoint::Handle { rank, handle } => {
             write!(out, "change {rank} ")?;
             push_cell_name(out, decls, DeclKind::Handle, handle)
         }

@@ -13,9 +13,9 @@ use Rattle.mpd_options.specs.declared.table.Name.TheVariants as the
 use Rattle.mpd_options.specs.declared.table.Tool.{Tool}
 use Rattle.mpd_options.specs.declared.table.Tool.TheVariants as tool
 use Rattle.mpd_options.specs.declared.options.CheckOptions.{CheckOptions}
-use Rattle.mpd_options.specs.declared.options.CommandLine.{CommandLine}
 use Rattle.mpd_options.specs.declared.options.Options.{Options}
-use Rattle.mpd_options.specs.declared.options.Options.TheVariants.{Plain, Diagnose, Trace, Debug, Dap, Run, Serve, Check, Verify, Words, Translate, Picture, Page}
+use Rattle.mpd_options.specs.declared.options.ToolOptions.{ToolOptions}
+use Rattle.mpd_options.specs.declared.options.ToolOptions.TheVariants.{Plain, Diagnose, Trace, Debug, Dap, Run, Serve, Check, Verify, Words, Translate, Picture, Page}
 
 -- what is asked for: a script and its trace on standard input, a diagnosis of a file, the trace of one, a console on one, and an editor's debugger of one, each with the choices of a run or
 -- none and a witness or none, answers to requests on one, of one or of several clients, a look for deadlocks in one, a check of a witness, the trace words of a run,
@@ -47,7 +47,7 @@ pub record Asked : Type 0 where
 abbrev pub given_word : Option (Bor (List ℕ)) → Option (List ℕ)
 given_word = option_map (λ (text : Bor (List ℕ)). text.now)
 
-abbrev pub task_of : Options → Task
+abbrev pub task_of : ToolOptions → Task
 task_of Plain = plain
 task_of (Diagnose file mode modes strict ranks) = diagnose file.now (given_word mode) modes strict (given_word ranks)
 task_of (Trace file mode echo) = trace file.now mode.now echo
@@ -70,7 +70,7 @@ as_written = record { task = plain; ranks = None }
 abbrev pub as_it_stands : Option Task → Option Asked
 as_it_stands = option_map (λ task. record { task = task; ranks = None })
 
-abbrev pub asked : CommandLine → Asked
+abbrev pub asked : Options → Asked
 asked line = record { task = task_of line.asked; ranks = line.ranks }
 
 -- each number of a look for deadlocks lies in its range
@@ -95,7 +95,7 @@ IsTaskInRange _ = ⊤
 abbrev pub IsInRange : Asked → Type 0
 IsInRange x = IsTaskInRange x.task × IfSome x.ranks (λ n. (1 ≤ n) × (n ≤ most_ranks))
 
-abbrev pub IsLineInRange : CommandLine → Type 0
+abbrev pub IsLineInRange : Options → Type 0
 IsLineInRange line = IsInRange (asked line)
 
 -- what a word after a command is: `--`, `--NAME` or `--NAME=V` of an option, another option, or none

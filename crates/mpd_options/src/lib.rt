@@ -8,5 +8,5 @@ pub mod options;
 pub mod table;
 
 pub use clash::{CheckOption, Clash};
-pub use options::{CheckOptions, CommandLine, Options, PageOptions, UsageFault, read_options};
+pub use options::{CheckOptions, Options, PageOptions, ToolOptions, UsageFault, read_options};
 pub use table::Tool;

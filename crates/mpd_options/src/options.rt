@@ -99,7 +99,7 @@ pub struct PageOptions<'a> {
 
 /// What a command line asks for.
 #[derive(Clone, Copy)]
-pub enum Options<'a> {
+pub enum ToolOptions<'a> {
     /// No word: a script and its trace are on standard input.
     Plain,
     /// Say whether the runs of the script of a file can hang or trap, how, and where that was decided.
@@ -249,9 +249,9 @@ pub enum Options<'a> {
 
 /// A whole command line: what it asks for, and for how many ranks.
 #[derive(Clone, Copy)]
-pub struct CommandLine<'a> {
+pub struct Options<'a> {
     /// What it asks for.
-    pub asked: Options<'a>,
+    pub asked: ToolOptions<'a>,
     /// How many ranks run the script, 1 to 16, if given; else it is the number in the script.
     pub ranks: Option<usize>,
 }
@@ -400,17 +400,17 @@ fn is_on(matches: &ArgMatches<'_>, name: Name) -> bool
 }
 
 /// What the words after `trace` ask for.
-fn trace_in<'a>(trace: &ArgMatches<'a>) -> Options<'a>
+fn trace_in<'a>(trace: &ArgMatches<'a>) -> ToolOptions<'a>
     ensures { task_of result ≡ task_by Tool.Trace (text_in (rows_of (found_of trace.now))) }
 {
     let file = word(trace, Name::File);
     let mode = word(trace, Name::Mode);
     let echo = is_on(trace, Name::Echo);
-    Options::Trace { file, mode, echo }
+    ToolOptions::Trace { file, mode, echo }
 }
 
 /// What the words after `debug` ask for.
-fn debug_in<'a>(debug: &ArgMatches<'a>) -> Options<'a>
+fn debug_in<'a>(debug: &ArgMatches<'a>) -> ToolOptions<'a>
     ensures { task_of result ≡ task_by Tool.Debug (text_in (rows_of (found_of debug.now))) }
 {
     let file = word(debug, Name::File);
@@ -422,7 +422,7 @@ fn debug_in<'a>(debug: &ArgMatches<'a>) -> Options<'a>
     let width = number(debug, Name::Width);
     let view = is_on(debug, Name::View);
     let height = number(debug, Name::Height);
-    Options::Debug {
+    ToolOptions::Debug {
         file,
         mode,
         choices: choices_word,
@@ -436,7 +436,7 @@ fn debug_in<'a>(debug: &ArgMatches<'a>) -> Options<'a>
 }
 
 /// What the words after `dap` ask for.
-fn dap_in<'a>(dap: &ArgMatches<'a>) -> Options<'a>
+fn dap_in<'a>(dap: &ArgMatches<'a>) -> ToolOptions<'a>
     ensures { task_of result ≡ task_by Tool.Dap (text_in (rows_of (found_of dap.now))) }
 {
     let file = word(dap, Name::File);
@@ -444,7 +444,7 @@ fn dap_in<'a>(dap: &ArgMatches<'a>) -> Options<'a>
     let choices_word = text(dap, Name::LaidChoices);
     let witness_file = text(dap, Name::LaidWitness);
     let ends = is_on(dap, Name::ChosenEnds);
-    Options::Dap {
+    ToolOptions::Dap {
         file,
         mode,
         choices: choices_word,
@@ -454,7 +454,7 @@ fn dap_in<'a>(dap: &ArgMatches<'a>) -> Options<'a>
 }
 
 /// What the words after `diagnose` ask for.
-fn diagnose_in<'a>(diagnose: &ArgMatches<'a>) -> Options<'a>
+fn diagnose_in<'a>(diagnose: &ArgMatches<'a>) -> ToolOptions<'a>
     ensures { task_of result ≡ task_by Tool.Diagnose (text_in (rows_of (found_of diagnose.now))) }
 {
     let file = word(diagnose, Name::File);
@@ -462,7 +462,7 @@ fn diagnose_in<'a>(diagnose: &ArgMatches<'a>) -> Options<'a>
     let most_slots = given(diagnose, Name::Modes);
     let is_strict = is_on(diagnose, Name::Strict);
     let span_word = text(diagnose, Name::RankSpan);
-    Options::Diagnose {
+    ToolOptions::Diagnose {
         file,
         mode: mode_word,
         modes: most_slots,
@@ -472,17 +472,17 @@ fn diagnose_in<'a>(diagnose: &ArgMatches<'a>) -> Options<'a>
 }
 
 /// What the words after `run` ask for.
-fn run_in<'a>(run: &ArgMatches<'a>) -> Options<'a>
+fn run_in<'a>(run: &ArgMatches<'a>) -> ToolOptions<'a>
     ensures { task_of result ≡ task_by Tool.Run (text_in (rows_of (found_of run.now))) }
 {
     let file = word(run, Name::File);
     let mode = word(run, Name::Mode);
     let wide = is_on(run, Name::Wide);
-    Options::Run { file, mode, wide }
+    ToolOptions::Run { file, mode, wide }
 }
 
 /// What the words after `serve` ask for.
-fn serve_in<'a>(serve: &ArgMatches<'a>) -> Options<'a>
+fn serve_in<'a>(serve: &ArgMatches<'a>) -> ToolOptions<'a>
     ensures { task_of result ≡ task_by Tool.Serve (text_in (rows_of (found_of serve.now))) }
 {
     let file = word(serve, Name::File);
@@ -490,7 +490,7 @@ fn serve_in<'a>(serve: &ArgMatches<'a>) -> Options<'a>
     let port = port_of(serve);
     let clients = number(serve, Name::Clients);
     let wide = is_on(serve, Name::Wide);
-    Options::Serve {
+    ToolOptions::Serve {
         file,
         mode,
         port,
@@ -557,13 +557,13 @@ fn check_options_in(check: &ArgMatches<'_>) -> CheckOptions
 }
 
 /// What the words after `check` ask for.
-fn check_in<'a>(check: &ArgMatches<'a>) -> Options<'a>
+fn check_in<'a>(check: &ArgMatches<'a>) -> ToolOptions<'a>
     ensures { task_of result ≡ task_by Tool.Check (text_in (rows_of (found_of check.now))) }
 {
     let file = word(check, Name::File);
     let mode = word(check, Name::Mode);
     let options = check_options_in(check);
-    Options::Check {
+    ToolOptions::Check {
         file,
         mode,
         options,
@@ -571,14 +571,14 @@ fn check_in<'a>(check: &ArgMatches<'a>) -> Options<'a>
 }
 
 /// What the words after `verify` ask for.
-fn verify_in<'a>(verify: &ArgMatches<'a>) -> Options<'a>
+fn verify_in<'a>(verify: &ArgMatches<'a>) -> ToolOptions<'a>
     ensures { task_of result ≡ task_by Tool.Verify (text_in (rows_of (found_of verify.now))) }
 {
     let file = word(verify, Name::File);
     let witness = word(verify, Name::WitnessFile);
     let mode = word(verify, Name::Mode);
     let leaf = given(verify, Name::Leaf);
-    Options::Verify {
+    ToolOptions::Verify {
         file,
         witness,
         mode,
@@ -587,7 +587,7 @@ fn verify_in<'a>(verify: &ArgMatches<'a>) -> Options<'a>
 }
 
 /// What the words after `words` ask for.
-fn words_in<'a>(words: &ArgMatches<'a>) -> Options<'a>
+fn words_in<'a>(words: &ArgMatches<'a>) -> ToolOptions<'a>
     ensures { task_of result ≡ task_by Tool.Words (text_in (rows_of (found_of words.now))) }
 {
     let file = word(words, Name::File);
@@ -595,7 +595,7 @@ fn words_in<'a>(words: &ArgMatches<'a>) -> Options<'a>
     let mode = word(words, Name::Mode);
     let fuel = number(words, Name::Fuel);
     let ends = is_on(words, Name::ChosenEnds);
-    Options::Words {
+    ToolOptions::Words {
         file,
         choices,
         mode,
@@ -605,15 +605,15 @@ fn words_in<'a>(words: &ArgMatches<'a>) -> Options<'a>
 }
 
 /// What the words after `c` ask for.
-fn translate_in<'a>(translate: &ArgMatches<'a>) -> Options<'a>
+fn translate_in<'a>(translate: &ArgMatches<'a>) -> ToolOptions<'a>
     ensures { task_of result ≡ task_by Tool.Translate (text_in (rows_of (found_of translate.now))) }
 {
     let file = word(translate, Name::File);
-    Options::Translate { file }
+    ToolOptions::Translate { file }
 }
 
 /// What the words after `picture` ask for.
-fn picture_in<'a>(picture: &ArgMatches<'a>) -> Options<'a>
+fn picture_in<'a>(picture: &ArgMatches<'a>) -> ToolOptions<'a>
     ensures { task_of result ≡ task_by Tool.Picture (text_in (rows_of (found_of picture.now))) }
 {
     let file = word(picture, Name::File);
@@ -625,7 +625,7 @@ fn picture_in<'a>(picture: &ArgMatches<'a>) -> Options<'a>
     let ends = is_on(picture, Name::ChosenEnds);
     let plain = is_on(picture, Name::PlainDrawing);
     let large = is_on(picture, Name::LargeDrawing);
-    Options::Picture {
+    ToolOptions::Picture {
         file,
         mode,
         choices: choices_word,
@@ -639,7 +639,7 @@ fn picture_in<'a>(picture: &ArgMatches<'a>) -> Options<'a>
 }
 
 /// What the words after `page` ask for.
-fn page_in<'a>(page: &ArgMatches<'a>) -> Options<'a>
+fn page_in<'a>(page: &ArgMatches<'a>) -> ToolOptions<'a>
     ensures { task_of result ≡ task_by Tool.Page (text_in (rows_of (found_of page.now))) }
 {
     let file = word(page, Name::File);
@@ -652,7 +652,7 @@ fn page_in<'a>(page: &ArgMatches<'a>) -> Options<'a>
     let states = number(page, Name::PagedStates);
     let ends = is_on(page, Name::PagedEnds);
     let hide = is_on(page, Name::Hide);
-    Options::Page(PageOptions {
+    ToolOptions::Page(PageOptions {
         file,
         mode,
         choices: choices_word,
@@ -667,7 +667,7 @@ fn page_in<'a>(page: &ArgMatches<'a>) -> Options<'a>
 }
 
 /// What the words after a command ask for.
-fn options_in<'a>(tool: Tool, matches: &ArgMatches<'a>) -> Options<'a>
+fn options_in<'a>(tool: Tool, matches: &ArgMatches<'a>) -> ToolOptions<'a>
     ensures { task_of result ≡ task_by tool (text_in (rows_of (found_of matches.now))) }
 {
     match tool {
@@ -687,12 +687,12 @@ fn options_in<'a>(tool: Tool, matches: &ArgMatches<'a>) -> Options<'a>
 }
 
 /// What the words after a command ask for, and for how many ranks.
-fn tool_line_in<'a>(tool: Tool, matches: &ArgMatches<'a>) -> CommandLine<'a>
+fn tool_line_in<'a>(tool: Tool, matches: &ArgMatches<'a>) -> Options<'a>
     ensures { asked result ≡ asked_by tool (text_in (rows_of (found_of matches.now))) }
 {
     let options = options_in(tool, matches);
     let number = given(matches, Name::Ranks);
-    CommandLine {
+    Options {
         asked: options,
         ranks: number,
     }
@@ -700,11 +700,11 @@ fn tool_line_in<'a>(tool: Tool, matches: &ArgMatches<'a>) -> CommandLine<'a>
 
 /// What the command that was found asks for, and for how many ranks.
 #[tactic(auto, using(crate::proofs::Commands::no_command))]
-fn line_in<'a>(matches: &ArgMatches<'a>) -> CommandLine<'a>
+fn line_in<'a>(matches: &ArgMatches<'a>) -> Options<'a>
     ensures { asked result ≡ asked_of (subcommand_rows_of matches.now) }
 {
-    let plain = CommandLine {
-        asked: Options::Plain,
+    let plain = Options {
+        asked: ToolOptions::Plain,
         ranks: None,
     };
     let Some((word, command)) = matches.subcommand() else {
@@ -730,10 +730,7 @@ fn found_by_words<'a, S: AsStr>(alloc: Global, words: &'a [S]) -> Result<ArgMatc
 }
 
 /// What words ask for, of which there are some.
-fn options_by_words<'a, S: AsStr>(
-    alloc: Global,
-    words: &'a [S],
-) -> Result<CommandLine<'a>, UsageFault>
+fn options_by_words<'a, S: AsStr>(alloc: Global, words: &'a [S]) -> Result<Options<'a>, UsageFault>
     requires { 0 < length words.now }
     ensures in_range { IfOk result IsLineInRange }
     ensures ok { IfOk result (λ line. meant (map S.text words.entry.now) ≡ Some (asked line)) }
@@ -749,17 +746,14 @@ fn options_by_words<'a, S: AsStr>(
 /// line"): what they ask for, with the words of files and mode as they were given. An `Err` is
 /// `Usage` exactly if they ask for nothing that can be done, with the kind of fault that `clap` has
 /// for these words, or `Memory`.
-pub fn read_options<'a, S: AsStr>(
-    alloc: Global,
-    words: &'a [S],
-) -> Result<CommandLine<'a>, UsageFault>
+pub fn read_options<'a, S: AsStr>(alloc: Global, words: &'a [S]) -> Result<Options<'a>, UsageFault>
     ensures in_range { IfOk result IsLineInRange }
     ensures ok { IfOk result (λ line. meant (map S.text words.entry.now) ≡ Some (asked line)) }
     ensures err { IfErr result (λ fault. IsRefused fault (map S.text words.entry.now)) }
 {
     if words.is_empty() {
-        return Ok(CommandLine {
-            asked: Options::Plain,
+        return Ok(Options {
+            asked: ToolOptions::Plain,
             ranks: None,
         });
     }

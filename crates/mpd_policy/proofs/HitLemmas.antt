@@ -4,8 +4,8 @@ use Rattle.std.proofs.lemmas.Option.{slice_get_past}
 use Rattle.std.proofs.lemmas.Bool.Decides.{eqb_tells}
 use Rattle.std.proofs.lemmas.Cmp.{int_eq_equiv}
 use Rattle.std.specs.Option.{option_map}
-use Rattle.mpd_model.specs.declared.breakpoint.Break.{Break}
-use Rattle.mpd_model.specs.declared.breakpoint.Break.TheVariants.{Line, Change, Handle, Match, Rank}
+use Rattle.mpd_model.specs.declared.breakpoint.Breakpoint.{Breakpoint}
+use Rattle.mpd_model.specs.declared.breakpoint.Breakpoint.TheVariants.{Line, Change, Handle, Match, Rank}
 use Rattle.mpd_model.specs.declared.call.Activity.{Activity}
 use Rattle.mpd_model.specs.declared.call.Activity.TheVariants.{Running, Blocked, Trapped}
 use Rattle.mpd_model.specs.declared.step.Step.{Step}
@@ -140,7 +140,7 @@ call_same None (Some n) = refl
 call_same (Some m) None = refl
 call_same (Some m) (Some n) = refl
 
-hit_split : (s : Program) (place : Option Break) (old : World) (a : Step) (new : World) → hit_by s place old a new ≡ (told_by s place a new || changed_by (watched_at old place) place new)
+hit_split : (s : Program) (place : Option Breakpoint) (old : World) (a : Step) (new : World) → hit_by s place old a new ≡ (told_by s place a new || changed_by (watched_at old place) place new)
 hit_split s (Some (Line line of when)) old a new = or_no (line_hits s line of when a new)
 hit_split s (Some (Change p c)) old a new = ap not (value_same (cell_at old p c) (cell_at new p c))
 hit_split s (Some (Handle p h)) old a new = ap not (call_same (handle_at old p h) (handle_at new p h))
@@ -167,18 +167,18 @@ same_turned (seen.Call m) (seen.Value y) = refl
 same_turned (seen.Call m) (seen.Call n) = number_turned m n
 
 -- what was watched before a step
-pub hit_forward : (s : Program) (places : List (Option Break)) (values : List Watched) (old : World) (a : Step) (new : World) → ((n : ℕ) → get_or values n seen.Nothing ≡ watched_at old (break_at places n))
+pub hit_forward : (s : Program) (places : List (Option Breakpoint)) (values : List Watched) (old : World) (a : Step) (new : World) → ((n : ℕ) → get_or values n seen.Nothing ≡ watched_at old (break_at places n))
     → lowest_hit s places old a new ≡ lower (lowest_told s places a new) (lowest_changed places values new)
 hit_forward s places values old a new held =
     both_lowest (λ n. told_by s (break_at places n) a new) (λ n. changed_by (get_or values n seen.Nothing) (break_at places n) new) (λ n. hit_by s (break_at places n) old a new)
     (λ n. hit_split s (break_at places n) old a new ∙ ap (λ (v : Watched). told_by s (break_at places n) a new || changed_by v (break_at places n) new) (sym (held n))) 0 (length places)
 
-changed_turned : (place : Option Break) (old new : World) → changed_by (watched_at old place) place new ≡ changed_by (watched_at new place) place old
+changed_turned : (place : Option Breakpoint) (old new : World) → changed_by (watched_at old place) place new ≡ changed_by (watched_at new place) place old
 changed_turned None old new = refl
 changed_turned (Some b) old new = ap not (same_turned (watched_by old b) (watched_by new b))
 
 -- what was watched behind it
-pub hit_backward : (s : Program) (places : List (Option Break)) (values : List Watched) (old : World) (a : Step) (new : World) → ((n : ℕ) → get_or values n seen.Nothing ≡ watched_at new (break_at places n))
+pub hit_backward : (s : Program) (places : List (Option Breakpoint)) (values : List Watched) (old : World) (a : Step) (new : World) → ((n : ℕ) → get_or values n seen.Nothing ≡ watched_at new (break_at places n))
     → lowest_hit s places old a new ≡ lower (lowest_told s places a new) (lowest_changed places values old)
 hit_backward s places values old a new held =
     both_lowest (λ n. told_by s (break_at places n) a new) (λ n. changed_by (get_or values n seen.Nothing) (break_at places n) old) (λ n. hit_by s (break_at places n) old a new)

@@ -2,7 +2,7 @@
 use Rattle.std.proofs.Common.{◌≡◌, ℕ, zero, suc, ◌+◌, ◌-◌, ◌<◌, ◌≤◌, ◌==◌, cond, Option, Some, None, List, [], ◌∷◌, length, take, slice_get, inl, inr, refl, sym, ap, ◌∙◌, arith}
 use Rattle.std.proofs.lemmas.Bool.Decides.{eqb_tells}
 use Rattle.mpd_model.specs.declared.step.Step.{Step}
-use Rattle.mpd_model.specs.declared.breakpoint.Break.{Break}
+use Rattle.mpd_model.specs.declared.breakpoint.Breakpoint.{Breakpoint}
 use Rattle.mpd_model.specs.declared.breakpoint.Stop.{Stop}
 use Rattle.mpd_model.specs.steps.World.{World, start}
 use Rattle.mpd_model.specs.steps.Next.{fold}
@@ -25,7 +25,7 @@ get_lower (suc i) (suc n) (x ∷ xs) lt = get_lower i n xs (omega (arith, lt))
 world_there : (t : Trail) (n : ℕ) → n ≤ t.depth → world_at (forgotten t) n ≡ world_at t n
 world_there t n le = ap (fold (start t.program t.mode)) (take_less n t.depth t.steps le)
 
-hit_there : (places : List (Option Break)) (t : Trail) (n : ℕ) → n < t.depth → hit_at places (forgotten t) n ≡ hit_at places t n
+hit_there : (places : List (Option Breakpoint)) (t : Trail) (n : ℕ) → n < t.depth → hit_at places (forgotten t) n ≡ hit_at places t n
 hit_there places t n lt =
     ap (λ (o : Option World). hit_of t.program places o (slice_get (take t.depth t.steps) n) (world_at (forgotten t) (n + 1))) (world_there t n (omega (arith, lt)))
     ∙ ap (λ (o : Option Step). hit_of t.program places (world_at t n) o (world_at (forgotten t) (n + 1))) (get_lower n t.depth t.steps lt)
@@ -44,19 +44,19 @@ not_first n o some = elim (eqb_tells (n + 1) 1) [
 ]
 
 -- a run back that goes on stops elsewhere
-goes_on : (places : List (Option Break)) (t : Trail) (n : ℕ) → hit_by (one_back None (ran_back places t n)) ≡ None
+goes_on : (places : List (Option Breakpoint)) (t : Trail) (n : ℕ) → hit_by (one_back None (ran_back places t n)) ≡ None
 goes_on places t zero = refl
 goes_on places t (suc n) =
     let more : Stop = ran_back places t (suc n) in
     not_first more.steps (cause_number more.cause) (one_more (hit_at places t n) (ran_back places t n))
 
-first_is : (places : List (Option Break)) (t : Trail) (n : ℕ) (hit : Option ℕ) → hit_by (one_back hit (ran_back places t n)) ≡ hit
+first_is : (places : List (Option Breakpoint)) (t : Trail) (n : ℕ) (hit : Option ℕ) → hit_by (one_back hit (ran_back places t n)) ≡ hit
 first_is places t n (Some k) = refl
 first_is places t n None = goes_on places t n
 
 -- ---- the last step
 
-last_is : (places : List (Option Break)) (t : Trail) → 0 < t.depth → last_hit places t ≡ hit_at places t (t.depth - 1)
+last_is : (places : List (Option Breakpoint)) (t : Trail) → 0 < t.depth → last_hit places t ≡ hit_at places t (t.depth - 1)
 last_is places t some =
     let n : ℕ = t.depth - 1 in
     let k : t.depth ≡ suc n = omega (arith, some) in
@@ -64,13 +64,13 @@ last_is places t some =
     ∙ first_is places (forgotten t) n (hit_at places (forgotten t) n)
     ∙ hit_there places t n (omega (arith, some))
 
-pub last_there : (places : List (Option Break)) (t u : Trail) (hit : Option ℕ) → 0 < t.depth → u ≡ t → hit ≡ hit_at places u (u.depth - 1) → hit ≡ last_hit places t
+pub last_there : (places : List (Option Breakpoint)) (t u : Trail) (hit : Option ℕ) → 0 < t.depth → u ≡ t → hit ≡ hit_at places u (u.depth - 1) → hit ≡ last_hit places t
 last_there places t u hit some same is = is ∙ ap (λ (v : Trail). hit_at places v (v.depth - 1)) same ∙ sym (last_is places t some)
 
-pub last_at_start : (places : List (Option Break)) (t : Trail) → t.depth ≡ 0 → None ≡ last_hit places t
+pub last_at_start : (places : List (Option Breakpoint)) (t : Trail) → t.depth ≡ 0 → None ≡ last_hit places t
 last_at_start places t none_taken = sym (ap (λ m. hit_by (ran_back places (forgotten t) m)) none_taken)
 
-pub last_unset : (places : List (Option Break)) (t : Trail) → 0 < t.depth → ((n : ℕ) → break_at places n ≡ None) → None ≡ last_hit places t
+pub last_unset : (places : List (Option Breakpoint)) (t : Trail) → 0 < t.depth → ((n : ℕ) → break_at places n ≡ None) → None ≡ last_hit places t
 last_unset places t some free =
     last_there places t t None some refl (no_hit_at t.program places free (world_at t (t.depth - 1)) (slice_get t.steps (t.depth - 1)) (world_at t ((t.depth - 1) + 1)))
 

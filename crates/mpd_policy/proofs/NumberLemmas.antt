@@ -3,7 +3,7 @@ use Rattle.std.proofs.Common.{◌≡◌, ℕ, zero, suc, ◌+◌, ◌-◌, ◌<�
 use Rattle.std.proofs.lemmas.Bool.{lt-ltb, le-ltb}
 use Rattle.std.specs.List.{filter, range_with_len}
 use Rattle.mpd_model.specs.declared.step.Step.{Step}
-use Rattle.mpd_model.specs.declared.breakpoint.Break.{Break}
+use Rattle.mpd_model.specs.declared.breakpoint.Breakpoint.{Breakpoint}
 use Rattle.mpd_model.specs.script.Program.{Program}
 use Rattle.mpd_model.specs.steps.World.{World}
 use Rattle.mpd_model.specs.runs.Breakpoints.{break_at, hit_by, lowest_hit}
@@ -90,11 +90,11 @@ pub number_begins : (t : ℕ → Bool) (n m : ℕ) → m ≡ n → number_from t
 number_begins t n m e = ap (number_from t 0) (sym e)
 
 -- where no place is taken
-pub no_hit : (s : Program) (places : List (Option Break)) (old : World) (a : Step) (new : World) → ((n : ℕ) → break_at places n ≡ None) → None ≡ lowest_hit s places old a new
+pub no_hit : (s : Program) (places : List (Option Breakpoint)) (old : World) (a : Step) (new : World) → ((n : ℕ) → break_at places n ≡ None) → None ≡ lowest_hit s places old a new
 no_hit s places old a new free =
-    number_end (λ n. hit_by s (break_at places n) old a new) 0 (length places) _ (λ k le. ap (λ (place : Option Break). hit_by s place old a new) (free k)) refl
+    number_end (λ n. hit_by s (break_at places n) old a new) 0 (length places) _ (λ k le. ap (λ (place : Option Breakpoint). hit_by s place old a new) (free k)) refl
 
-pub no_hit_at : (s : Program) (places : List (Option Break)) → ((n : ℕ) → break_at places n ≡ None) → (old : Option World) (a : Option Step) (new : Option World) → None ≡ hit_of s places old a new
+pub no_hit_at : (s : Program) (places : List (Option Breakpoint)) → ((n : ℕ) → break_at places n ≡ None) → (old : Option World) (a : Option Step) (new : Option World) → None ≡ hit_of s places old a new
 no_hit_at s places free (Some old) (Some a) (Some new) = no_hit s places old a new free
 no_hit_at s places free (Some old) (Some a) None = refl
 no_hit_at s places free (Some old) None new = refl

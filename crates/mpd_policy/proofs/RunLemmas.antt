@@ -7,7 +7,7 @@ use Rattle.mpd_model.specs.declared.limits.TheConstants.{STEPS_MAX}
 use Rattle.mpd_model.specs.declared.step.Step.{Step}
 use Rattle.mpd_model.specs.declared.decision.Decision.{Decision}
 use Rattle.mpd_model.specs.declared.decision.Decision.TheVariants.{Forced, Choice, Leaf}
-use Rattle.mpd_model.specs.declared.breakpoint.Break.{Break}
+use Rattle.mpd_model.specs.declared.breakpoint.Breakpoint.{Breakpoint}
 use Rattle.mpd_model.specs.declared.breakpoint.Stop.{Stop}
 use Rattle.mpd_model.specs.declared.breakpoint.Cause.{Cause}
 use Rattle.mpd_model.specs.declared.breakpoint.Cause.TheVariants as for
@@ -113,7 +113,7 @@ ahead_few t s x a r is takes =
 
 -- ---- one step of a run
 
-ran_step : (t : Taking) (s : Program) (places : List (Option Break)) (n depth : ℕ) (w v : World) (a : Step) → ahead_of depth (comes t w) ≡ Take a → next w a ≡ Some v
+ran_step : (t : Taking) (s : Program) (places : List (Option Breakpoint)) (n depth : ℕ) (w v : World) (a : Step) → ahead_of depth (comes t w) ≡ Take a → next w a ≡ Some v
     → ran_along (comes t) s places (suc n) depth w ≡ behind a (lowest_hit s places w a v) (ran_along (comes t) s places n (depth + 1) v)
 ran_step t s places n depth w v a e leads =
     let both = ahead_forced depth (comes t w) a e in
@@ -121,7 +121,7 @@ ran_step t s places n depth w v a e leads =
     ∙ ap (λ (b : Bool). cond b (stopped for.Full) (ran_taking (ran_along (comes t) s places n (depth + 1)) s places w a (next w a))) both.1
     ∙ ap (ran_taking (ran_along (comes t) s places n (depth + 1)) s places w a) leads
 
-halts_by : (more : World → Ran) (s : Program) (places : List (Option Break)) (depth : ℕ) (w : World) (d : Decision) (cause : Cause) → ahead_of depth d ≡ Halt cause → ran_by more s places depth w d ≡ stopped cause
+halts_by : (more : World → Ran) (s : Program) (places : List (Option Breakpoint)) (depth : ℕ) (w : World) (d : Decision) (cause : Cause) → ahead_of depth d ≡ Halt cause → ran_by more s places depth w d ≡ stopped cause
 halts_by more s places depth w (Forced a) cause e = forced_by (depth == STEPS_MAX) e
   where
     forced_by : (f : Bool) → cond f (Halt for.Full) (Take a) ≡ Halt cause → cond f (stopped for.Full) (ran_taking more s places w a (next w a)) ≡ stopped cause
@@ -139,7 +139,7 @@ halts_last depth (Forced a) cause e = forced_by (depth == STEPS_MAX) e
 halts_last depth (Choice steps) cause e = let h : Halt for.Choice ≡ Halt cause = e in let same : for.Choice ≡ cause = cc in same
 halts_last depth (Leaf o) cause e = let h : Halt for.Leaf ≡ Halt cause = e in let same : for.Leaf ≡ cause = cc in same
 
-ran_halts : (t : Taking) (s : Program) (places : List (Option Break)) (n depth : ℕ) (w : World) (cause : Cause) → ahead_of depth (comes t w) ≡ Halt cause → ran_along (comes t) s places n depth w ≡ stopped cause
+ran_halts : (t : Taking) (s : Program) (places : List (Option Breakpoint)) (n depth : ℕ) (w : World) (cause : Cause) → ahead_of depth (comes t w) ≡ Halt cause → ran_along (comes t) s places n depth w ≡ stopped cause
 ran_halts t s places zero depth w cause e = ap stopped (halts_last depth (comes t w) cause e)
 ran_halts t s places (suc n) depth w cause e = halts_by (ran_along (comes t) s places n (depth + 1)) s places depth w (comes t w) cause e
 
@@ -159,7 +159,7 @@ stop_at steps cause = record { steps = steps; cause = cause }
 abbrev pub behind_all : List Step → Ran → Ran
 behind_all taken r = record { steps = taken ++ r.steps; cause = r.cause }
 
-pub record Going (t : Taking) (places : List (Option Break)) (max : ℕ) (old now : Standing) (made : ℕ) : Type 0 where
+pub record Going (t : Taking) (places : List (Option Breakpoint)) (max : ℕ) (old now : Standing) (made : ℕ) : Type 0 where
   pub taken : List Step
   pub count : length taken ≡ made
   pub within : made ≤ max
@@ -174,7 +174,7 @@ pub record Going (t : Taking) (places : List (Option Break)) (max : ℕ) (old no
 take_twice : (n : ℕ) (xs : List Step) → take n (take n xs) ≡ take n xs
 take_twice n xs = take_all n (take n xs) (omega (arith, length-take n xs))
 
-pub going_begins : (t : Taking) (places : List (Option Break)) (max : ℕ) (old : Standing) → Going t places max old old 0
+pub going_begins : (t : Taking) (places : List (Option Breakpoint)) (max : ℕ) (old : Standing) → Going t places max old old 0
 going_begins t places max old = record {
   taken = [];
   count = refl;
@@ -197,7 +197,7 @@ fold_more first w v xs a e leads =
     fold-append first xs (a ∷ []) ∙ ap (option_and_then (λ (v : World). fold v (a ∷ []))) e ∙ ap (option_and_then (λ (v : World). fold v [])) leads
 
 -- what a step adds, whatever it hits
-total_more : (t : Taking) (places : List (Option Break)) (max : ℕ) (old now new : Standing) (made : ℕ) (a : Step) (x : Ahead) (hit : Option ℕ) (g : Going t places max old now made) → made < max
+total_more : (t : Taking) (places : List (Option Breakpoint)) (max : ℕ) (old now new : Standing) (made : ℕ) (a : Step) (x : Ahead) (hit : Option ℕ) (g : Going t places max old now made) → made < max
     → x ≡ ahead_of now.trail.depth (comes t now.world) → x ≡ Take a → next now.world a ≡ Some new.world → hit ≡ lowest_hit now.trail.program places now.world a new.world
     → ran_from t places max old ≡ behind_all g.taken (behind a hit (ran_along (comes t) old.trail.program places (max - (made + 1)) (now.trail.depth + 1) new.world))
 total_more t places max old now new made a x hit g lt is takes leads hits =
@@ -216,7 +216,7 @@ kept_more n xs ys total a le e more = ap (take n) more ∙ take-append-le n xs (
 done_steps_long : (s : Standing) → IsReached s → length (done_steps s.trail) ≡ s.trail.depth
 done_steps_long s r = omega (arith, length-take s.trail.depth s.trail.steps, r.within)
 
-pub going_more : (t : Taking) (places : List (Option Break)) (max : ℕ) (old now new : Standing) (made : ℕ) (a : Step) (x : Ahead) (hit : Option ℕ) → Going t places max old now made → IsReached now → made < max
+pub going_more : (t : Taking) (places : List (Option Breakpoint)) (max : ℕ) (old now new : Standing) (made : ℕ) (a : Step) (x : Ahead) (hit : Option ℕ) → Going t places max old now made → IsReached now → made < max
     → x ≡ ahead_of now.trail.depth (comes t now.world) → x ≡ Take a → new.trail ≡ applied now.trail a → next now.world a ≡ Some new.world → done_steps new.trail ≡ done_steps now.trail ++ a ∷ []
     → hit ≡ lowest_hit now.trail.program places now.world a new.world → hit ≡ None → Going t places max old new (made + 1)
 going_more t places max old now new made a x hit g r lt is takes notes leads steps hits none =
@@ -240,7 +240,7 @@ going_more t places max old now new made a x hit g r lt is takes notes leads ste
       mode = ap (λ (t : Trail). t.mode) notes ∙ g.mode;
     }
 
-ended_with : (t : Taking) (places : List (Option Break)) (max : ℕ) (old new : Standing) (steps : List Step) (cause : Cause) (made : ℕ) → ran_from t places max old ≡ made_of steps cause → length steps ≡ made
+ended_with : (t : Taking) (places : List (Option Breakpoint)) (max : ℕ) (old new : Standing) (steps : List Step) (cause : Cause) (made : ℕ) → ran_from t places max old ≡ made_of steps cause → length steps ≡ made
     → new.trail ≡ all_applied old.trail steps → fold old.world steps ≡ Some new.world → Ended t places max old new (record { steps = made; cause = cause })
 ended_with t places max old new steps cause made e count notes leads = record {
   stop = ap (λ (n : ℕ). stop_at n cause) (sym count) ∙ ap stop_of (sym e);
@@ -248,7 +248,7 @@ ended_with t places max old new steps cause made e count notes leads = record {
   world = ap (λ (r : Ran). fold old.world r.steps) e ∙ leads;
 }
 
-pub going_hit : (t : Taking) (places : List (Option Break)) (max : ℕ) (old now new : Standing) (made n : ℕ) (a : Step) (x : Ahead) (hit : Option ℕ) → Going t places max old now made → made < max
+pub going_hit : (t : Taking) (places : List (Option Breakpoint)) (max : ℕ) (old now new : Standing) (made n : ℕ) (a : Step) (x : Ahead) (hit : Option ℕ) → Going t places max old now made → made < max
     → x ≡ ahead_of now.trail.depth (comes t now.world) → x ≡ Take a → new.trail ≡ applied now.trail a → next now.world a ≡ Some new.world
     → hit ≡ lowest_hit now.trail.program places now.world a new.world → hit ≡ Some n → Ended t places max old new (record { steps = made + 1; cause = for.Break n })
 going_hit t places max old now new made n a x hit g lt is takes notes leads hits some =
@@ -259,14 +259,14 @@ going_hit t places max old now new made n a x hit g lt is takes notes leads hits
     (notes ∙ ap (λ (t : Trail). applied t a) g.trail ∙ sym (applied_more old.trail g.taken a))
     (fold_more old.world now.world new.world g.taken a g.world leads)
 
-pub going_halted : (t : Taking) (places : List (Option Break)) (max : ℕ) (old now : Standing) (made : ℕ) (cause : Cause) (x : Ahead) → Going t places max old now made → x ≡ ahead_of now.trail.depth (comes t now.world) → x ≡ Halt cause
+pub going_halted : (t : Taking) (places : List (Option Breakpoint)) (max : ℕ) (old now : Standing) (made : ℕ) (cause : Cause) (x : Ahead) → Going t places max old now made → x ≡ ahead_of now.trail.depth (comes t now.world) → x ≡ Halt cause
     → Ended t places max old now (record { steps = made; cause = cause })
 going_halted t places max old now made cause x g is halts =
     ended_with t places max old now g.taken cause made
     (g.total ∙ ap (behind_all g.taken) (ran_halts t old.trail.program places (max - made) now.trail.depth now.world cause (sym is ∙ halts))
     ∙ ap (λ (xs : List Step). made_of xs cause) (append-nil g.taken)) g.count g.trail g.world
 
-pub going_spent : (t : Taking) (places : List (Option Break)) (max : ℕ) (old now : Standing) (made : ℕ) (a : Step) (x : Ahead) → Going t places max old now made → max ≤ made → x ≡ ahead_of now.trail.depth (comes t now.world) → x ≡ Take a
+pub going_spent : (t : Taking) (places : List (Option Breakpoint)) (max : ℕ) (old now : Standing) (made : ℕ) (a : Step) (x : Ahead) → Going t places max old now made → max ≤ made → x ≡ ahead_of now.trail.depth (comes t now.world) → x ≡ Take a
     → Ended t places max old now (record { steps = max; cause = for.Max })
 going_spent t places max old now made a x g all is takes =
     let k : max - made ≡ 0 = omega (arith, all) in
@@ -275,7 +275,7 @@ going_spent t places max old now made a x g all is takes =
     ∙ ap (λ (c : Cause). made_of (g.taken ++ []) c) (takes_last now.trail.depth (comes t now.world) a (sym is ∙ takes))
     ∙ ap (λ (xs : List Step). made_of xs for.Max) (append-nil g.taken)) (omega (arith, g.count, g.within, all)) g.trail g.world
 
-pub going_halted_last : (t : Taking) (places : List (Option Break)) (max : ℕ) (old now : Standing) (made : ℕ) (cause : Cause) (x : Ahead) → Going t places max old now made → max ≤ made → x ≡ ahead_of now.trail.depth (comes t now.world) → x ≡ Halt cause
+pub going_halted_last : (t : Taking) (places : List (Option Breakpoint)) (max : ℕ) (old now : Standing) (made : ℕ) (cause : Cause) (x : Ahead) → Going t places max old now made → max ≤ made → x ≡ ahead_of now.trail.depth (comes t now.world) → x ≡ Halt cause
     → Ended t places max old now (record { steps = max; cause = cause })
 going_halted_last t places max old now made cause x g all is halts =
     let k : made ≡ max = omega (arith, g.within, all) in
@@ -286,7 +286,7 @@ behind_some a (Some n) more = omega arith
 behind_some a None more = omega arith
 
 -- a run that is to take a step makes one
-makes_by : (t : Taking) (places : List (Option Break)) (max : ℕ) (old now : Standing) (made : ℕ) (a : Step) (x : Ahead) (g : Going t places max old now made) → made < max → x ≡ ahead_of now.trail.depth (comes t now.world) → x ≡ Take a
+makes_by : (t : Taking) (places : List (Option Breakpoint)) (max : ℕ) (old now : Standing) (made : ℕ) (a : Step) (x : Ahead) (g : Going t places max old now made) → made < max → x ≡ ahead_of now.trail.depth (comes t now.world) → x ≡ Take a
     → (o : Option World) → next now.world a ≡ o → IsSome o → 0 < length (ran_from t places max old).steps
 makes_by t places max old now made a x g lt is takes None leads some = absurd (let h : ⊥ = cc in h)
 makes_by t places max old now made a x g lt is takes (Some v) leads some =
@@ -307,7 +307,7 @@ wants_listed : (t : Taking) (n : ℕ) (w : World) → Lists t w → Wants t n w
 wants_listed taking.Forced n w h = absurd h
 wants_listed taking.Single n w h = inr h
 
-pub going_broken : (t : Taking) (places : List (Option Break)) (max : ℕ) (old now new : Standing) (made : ℕ) (a : Step) (x : Ahead) → Going t places max old now made → made < max → x ≡ ahead_of now.trail.depth (comes t now.world) → x ≡ Take a
+pub going_broken : (t : Taking) (places : List (Option Breakpoint)) (max : ℕ) (old now new : Standing) (made : ℕ) (a : Step) (x : Ahead) → Going t places max old now made → made < max → x ≡ ahead_of now.trail.depth (comes t now.world) → x ≡ Take a
     → new.trail ≡ now.trail → Broken t places max old new
 going_broken t places max old now new made a x g lt is takes same = record {
   begins = ap (λ (t : Trail). take old.trail.depth (done_steps t)) same ∙ g.begins;
@@ -322,7 +322,7 @@ listed_by : (t : Taking) (v w : World) (taken : List Step) (n : ℕ) → fold v 
 listed_by t v w [] n e le h = let same : Some v ≡ Some w = e in wants_listed t n v (subst (Lists t) (sym (some_same v w same)) h)
 listed_by t v w (a ∷ taken) n e le h = let more : suc (length taken) ≤ n = le in wants_made t n v (omega (arith, more))
 
-pub going_refused : (t : Taking) (places : List (Option Break)) (max : ℕ) (old now : Standing) (made : ℕ) → Going t places max old now made → Lists t now.world → Broken t places max old now
+pub going_refused : (t : Taking) (places : List (Option Breakpoint)) (max : ℕ) (old now : Standing) (made : ℕ) → Going t places max old now made → Lists t now.world → Broken t places max old now
 going_refused t places max old now made g h = record {
   begins = g.begins;
   deeper = g.deeper;
@@ -341,10 +341,10 @@ take_less (suc n) zero xs le = absurd (omega (arith, le))
 take_less (suc n) (suc m) [] le = refl
 take_less (suc n) (suc m) (x ∷ xs) le = ap (λ ys. x ∷ ys) (take_less n m xs (omega (arith, le)))
 
-pub back_begins : (t : Taking) (places : List (Option Break)) (max : ℕ) (old now : Standing) (steps : List Step) → Broken t places max old now → steps ≡ old.trail.steps → take old.trail.depth steps ≡ take old.trail.depth (done_steps now.trail)
+pub back_begins : (t : Taking) (places : List (Option Breakpoint)) (max : ℕ) (old now : Standing) (steps : List Step) → Broken t places max old now → steps ≡ old.trail.steps → take old.trail.depth steps ≡ take old.trail.depth (done_steps now.trail)
 back_begins t places max old now steps b same = ap (take old.trail.depth) same ∙ sym b.begins
 
-pub back_run : (t : Taking) (places : List (Option Break)) (max : ℕ) (old now : Standing) (steps : List Step) → Broken t places max old now → IsReached old → steps ≡ old.trail.steps → IsRun now.trail.program now.trail.mode steps
+pub back_run : (t : Taking) (places : List (Option Breakpoint)) (max : ℕ) (old now : Standing) (steps : List Step) → Broken t places max old now → IsReached old → steps ≡ old.trail.steps → IsRun now.trail.program now.trail.mode steps
 back_run t places max old now steps b r same =
     subst (λ (xs : List Step). IsRun now.trail.program now.trail.mode xs) (sym same)
     (subst (λ (p : Program). IsRun p now.trail.mode old.trail.steps) (sym b.program) (subst (λ (m : Mode). IsRun old.trail.program m old.trail.steps) (sym b.mode) r.run))
@@ -358,10 +358,10 @@ same_trail old now steps p m e =
     ∙ ap (λ (q : Mode). trail_of old.trail.program q steps old.trail.depth) m
     ∙ ap (λ (q : List Step). trail_of old.trail.program old.trail.mode q old.trail.depth) e
 
-pub back_some : (t : Taking) (places : List (Option Break)) (max : ℕ) (old now new : Standing) (steps : List Step) → Broken t places max old now → steps ≡ old.trail.steps → new.trail ≡ with_steps (gone_back now.trail old.trail.depth) steps → new.trail ≡ old.trail
+pub back_some : (t : Taking) (places : List (Option Breakpoint)) (max : ℕ) (old now new : Standing) (steps : List Step) → Broken t places max old now → steps ≡ old.trail.steps → new.trail ≡ with_steps (gone_back now.trail old.trail.depth) steps → new.trail ≡ old.trail
 back_some t places max old now new steps b same put = put ∙ same_trail old now steps b.program b.mode same
 
-pub back_none : (t : Taking) (places : List (Option Break)) (max : ℕ) (old now new : Standing) → Broken t places max old now → IsReached old → length old.trail.steps ≡ old.trail.depth → new.trail ≡ forgotten (gone_back now.trail old.trail.depth) → new.trail ≡ old.trail
+pub back_none : (t : Taking) (places : List (Option Breakpoint)) (max : ℕ) (old now new : Standing) → Broken t places max old now → IsReached old → length old.trail.steps ≡ old.trail.depth → new.trail ≡ forgotten (gone_back now.trail old.trail.depth) → new.trail ≡ old.trail
 back_none t places max old now new b r all forgets =
     forgets ∙ same_trail old now (take old.trail.depth now.trail.steps) b.program b.mode
     (sym (take_less old.trail.depth now.trail.depth now.trail.steps b.deeper) ∙ b.begins ∙ take_all old.trail.depth old.trail.steps (omega (arith, all)))
@@ -373,16 +373,16 @@ pub ruleset going = (going_begins, going_more, going_hit, going_halted, going_ha
 
 -- ---- what was set aside
 
-pub saved_begins : {V : Type 0} (t : Taking) (places : List (Option Break)) (max : ℕ) (f : V → List Step) (old now : Standing) (d : ℕ) (o : Option V) → d ≡ old.trail.depth → Broken t places max old now → IfSome o (λ v. f v ≡ old.trail.steps) → IfSome o (λ v. take d (f v) ≡ take d (done_steps now.trail))
+pub saved_begins : {V : Type 0} (t : Taking) (places : List (Option Breakpoint)) (max : ℕ) (f : V → List Step) (old now : Standing) (d : ℕ) (o : Option V) → d ≡ old.trail.depth → Broken t places max old now → IfSome o (λ v. f v ≡ old.trail.steps) → IfSome o (λ v. take d (f v) ≡ take d (done_steps now.trail))
 saved_begins t places max f old now d None e b h = tt
 saved_begins t places max f old now d (Some v) e b h =
     ap (λ (n : ℕ). take n (f v)) e ∙ back_begins t places max old now (f v) b h ∙ ap (λ (n : ℕ). take n (done_steps now.trail)) (sym e)
 
-pub saved_run : {V : Type 0} (t : Taking) (places : List (Option Break)) (max : ℕ) (f : V → List Step) (old now : Standing) (o : Option V) → Broken t places max old now → IsReached old → IfSome o (λ v. f v ≡ old.trail.steps) → IfSome o (λ v. IsRun now.trail.program now.trail.mode (f v))
+pub saved_run : {V : Type 0} (t : Taking) (places : List (Option Breakpoint)) (max : ℕ) (f : V → List Step) (old now : Standing) (o : Option V) → Broken t places max old now → IsReached old → IfSome o (λ v. f v ≡ old.trail.steps) → IfSome o (λ v. IsRun now.trail.program now.trail.mode (f v))
 saved_run t places max f old now None b r h = tt
 saved_run t places max f old now (Some v) b r h = back_run t places max old now (f v) b r h
 
-pub put_trail : {V : Type 0} (t : Taking) (places : List (Option Break)) (max : ℕ) (f : V → List Step) (old now new : Standing) (d : ℕ) (o : Option V) → d ≡ old.trail.depth → Broken t places max old now → IsReached old → IfSome o (λ v. f v ≡ old.trail.steps) → IfNone o (length old.trail.steps ≡ old.trail.depth)
+pub put_trail : {V : Type 0} (t : Taking) (places : List (Option Breakpoint)) (max : ℕ) (f : V → List Step) (old now new : Standing) (d : ℕ) (o : Option V) → d ≡ old.trail.depth → Broken t places max old now → IsReached old → IfSome o (λ v. f v ≡ old.trail.steps) → IfNone o (length old.trail.steps ≡ old.trail.depth)
     → IfSome o (λ v. new.trail ≡ with_steps (gone_back now.trail d) (f v)) → IfNone o (new.trail ≡ forgotten (gone_back now.trail d)) → new.trail ≡ old.trail
 put_trail t places max f old now new d None e b r some none put forgets = back_none t places max old now new b r none (forgets ∙ ap (λ (n : ℕ). forgotten (gone_back now.trail n)) e)
 put_trail t places max f old now new d (Some v) e b r some none put forgets = back_some t places max old now new (f v) b some (put ∙ ap (λ (n : ℕ). with_steps (gone_back now.trail n) (f v)) e)

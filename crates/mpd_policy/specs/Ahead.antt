@@ -3,7 +3,7 @@ use Rattle.std.specs.Prelude.{◌≡◌, ℕ, ◌<◌, ◌≤◌, ◌==◌, ◌�
 use Rattle.mpd_model.specs.declared.limits.TheConstants.{STEPS_MAX}
 use Rattle.mpd_model.specs.declared.decision.Decision.{Decision}
 use Rattle.mpd_model.specs.declared.decision.Decision.TheVariants as next_is
-use Rattle.mpd_model.specs.declared.breakpoint.Break.{Break}
+use Rattle.mpd_model.specs.declared.breakpoint.Breakpoint.{Breakpoint}
 use Rattle.mpd_model.specs.declared.breakpoint.Stop.{Stop}
 use Rattle.mpd_model.specs.declared.breakpoint.Cause.TheVariants as for
 use Rattle.mpd_model.specs.steps.World.{World}
@@ -44,23 +44,23 @@ ahead_of depth (next_is.Forced a) = if depth == STEPS_MAX then Halt for.Full els
 ahead_of depth (next_is.Choice steps) = Halt for.Choice
 ahead_of depth (next_is.Leaf o) = Halt for.Leaf
 
-abbrev pub ran_from : Taking → List (Option Break) → ℕ → Standing → Ran
+abbrev pub ran_from : Taking → List (Option Breakpoint) → ℕ → Standing → Ran
 ran_from t places max s = ran_along (comes t) s.trail.program places max s.trail.depth s.world
 
 -- a run that has stopped
-pub record Ended (t : Taking) (places : List (Option Break)) (max : ℕ) (old new : Standing) (halt : Stop) : Type 0 where
+pub record Ended (t : Taking) (places : List (Option Breakpoint)) (max : ℕ) (old new : Standing) (halt : Stop) : Type 0 where
   pub stop : halt ≡ stop_of (ran_from t places max old)
   pub trail : new.trail ≡ all_applied old.trail (ran_from t places max old).steps
   pub world : fold old.world (ran_from t places max old).steps ≡ Some new.world
 
 -- a run that was refused memory on its way: the steps before it still stand, and it was to make a step at least, or to list candidates
-pub record Broken (t : Taking) (places : List (Option Break)) (max : ℕ) (old new : Standing) : Type 0 where
+pub record Broken (t : Taking) (places : List (Option Breakpoint)) (max : ℕ) (old new : Standing) : Type 0 where
   pub begins : take old.trail.depth (done_steps new.trail) ≡ done_steps old.trail
   pub deeper : old.trail.depth ≤ new.trail.depth
   pub program : new.trail.program ≡ old.trail.program
   pub mode : new.trail.mode ≡ old.trail.mode
   pub makes : Wants t (length (ran_from t places max old).steps) old.world
 
-abbrev pub Went : {E : Type 0} → Taking → List (Option Break) → ℕ → Standing → Standing → Result Stop E → Type 0
+abbrev pub Went : {E : Type 0} → Taking → List (Option Breakpoint) → ℕ → Standing → Standing → Result Stop E → Type 0
 Went t places max old new (Ok stop) = Ended t places max old new stop
 Went t places max old new (Err e) = Broken t places max old new

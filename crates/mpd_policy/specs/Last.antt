@@ -1,6 +1,6 @@
 -- What the last step of a trail hits.
 use Rattle.std.specs.Prelude.{ℕ, ◌==◌, if◌then◌else◌, List, Option, Some, None}
-use Rattle.mpd_model.specs.declared.breakpoint.Break.{Break}
+use Rattle.mpd_model.specs.declared.breakpoint.Breakpoint.{Breakpoint}
 use Rattle.mpd_model.specs.declared.breakpoint.Cause.{Cause}
 use Rattle.mpd_model.specs.declared.breakpoint.Cause.TheVariants as for
 use Rattle.mpd_model.specs.declared.breakpoint.Stop.{Stop}
@@ -16,5 +16,5 @@ abbrev pub hit_by : Stop → Option ℕ
 hit_by stop = if stop.steps == 1 then cause_number stop.cause else None
 
 -- the lowest breakpoint that the last step hits, before which a run back would stop at once; what is undone doesn't matter
-abbrev pub last_hit : List (Option Break) → Trail → Option ℕ
+abbrev pub last_hit : List (Option Breakpoint) → Trail → Option ℕ
 last_hit places t = hit_by (ran_back places (forgotten t) (forgotten t).depth)

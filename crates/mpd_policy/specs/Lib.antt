@@ -1,4 +1,5 @@
 pub mod Entries
+pub mod Breaks
 pub mod Places
 pub mod Single
 pub mod Last

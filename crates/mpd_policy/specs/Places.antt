@@ -4,8 +4,8 @@ use Rattle.std.specs.List.{filter, range_with_len}
 use Rattle.std.specs.Ordering.{int_eq}
 use Rattle.mpd_model.specs.declared.limits.TheConstants.{BREAKS_MAX}
 use Rattle.mpd_model.specs.declared.step.Step.{Step}
-use Rattle.mpd_model.specs.declared.breakpoint.Break.{Break}
-use Rattle.mpd_model.specs.declared.breakpoint.Break.TheVariants.{Line, Change, Handle, Match, Rank}
+use Rattle.mpd_model.specs.declared.breakpoint.Breakpoint.{Breakpoint}
+use Rattle.mpd_model.specs.declared.breakpoint.Breakpoint.TheVariants.{Line, Change, Handle, Match, Rank}
 use Rattle.mpd_model.specs.script.Program.{Program}
 use Rattle.mpd_model.specs.steps.World.{World}
 use Rattle.mpd_model.specs.steps.Why.{first_in}
@@ -14,13 +14,13 @@ use Rattle.mpd_policy.specs.declared.hits.Watched.{Watched}
 use Rattle.mpd_policy.specs.declared.hits.Watched.TheVariants.{Nothing, Value, Call}
 
 -- so many places, of which none from a number on is taken
-pub record Uses (places : List (Option Break)) (used : ℕ) : Type 0 where
+pub record Uses (places : List (Option Breakpoint)) (used : ℕ) : Type 0 where
   pub size : length places ≡ BREAKS_MAX
   pub within : used ≤ BREAKS_MAX
   pub free : (n : ℕ) → used ≤ n → break_at places n ≡ None
 
 -- a breakpoint of a line, of a match or of a rank
-abbrev pub told_by : Program → Option Break → Step → World → Bool
+abbrev pub told_by : Program → Option Breakpoint → Step → World → Bool
 told_by s (Some (Line line of when)) a w = line_hits s line of when a w
 told_by s (Some (Change p c)) a w = false
 told_by s (Some (Handle p h)) a w = false
@@ -37,14 +37,14 @@ abbrev pub of_call : Option ℕ → Watched
 of_call None = Nothing
 of_call (Some n) = Call n
 
-abbrev pub watched_by : World → Break → Watched
+abbrev pub watched_by : World → Breakpoint → Watched
 watched_by w (Line line of when) = Nothing
 watched_by w (Change p c) = of_value (cell_at w p c)
 watched_by w (Handle p h) = of_call (handle_at w p h)
 watched_by w (Match line of) = Nothing
 watched_by w (Rank p) = Nothing
 
-abbrev pub watched_at : World → Option Break → Watched
+abbrev pub watched_at : World → Option Breakpoint → Watched
 watched_at w None = Nothing
 watched_at w (Some b) = watched_by w b
 
@@ -60,14 +60,14 @@ same_watched (Call m) (Value y) = false
 same_watched (Call m) (Call n) = m == n
 
 -- whether that is another than it was
-abbrev pub changed_by : Watched → Option Break → World → Bool
+abbrev pub changed_by : Watched → Option Breakpoint → World → Bool
 changed_by value None w = false
 changed_by value (Some b) w = not (same_watched value (watched_by w b))
 
-abbrev pub lowest_told : Program → List (Option Break) → Step → World → Option ℕ
+abbrev pub lowest_told : Program → List (Option Breakpoint) → Step → World → Option ℕ
 lowest_told s places a w = first_in (filter (λ n. told_by s (break_at places n) a w) (range_with_len 0 (length places)))
 
-abbrev pub lowest_changed : List (Option Break) → List Watched → World → Option ℕ
+abbrev pub lowest_changed : List (Option Breakpoint) → List Watched → World → Option ℕ
 lowest_changed places values w = first_in (filter (λ n. changed_by (slice_index_or values n Nothing) (break_at places n) w) (range_with_len 0 (length places)))
 
 -- the lower of two numbers, where there are some

@@ -3,7 +3,7 @@ use Rattle.std.specs.Prelude.{ℕ, List, [], ◌∷◌, Option, Some, None}
 use Rattle.mpd_model.specs.declared.step.Step.{Step}
 use Rattle.mpd_model.specs.declared.decision.Decision.{Decision}
 use Rattle.mpd_model.specs.declared.decision.Decision.TheVariants.{Forced, Choice, Leaf}
-use Rattle.mpd_model.specs.declared.breakpoint.Break.{Break}
+use Rattle.mpd_model.specs.declared.breakpoint.Breakpoint.{Breakpoint}
 use Rattle.mpd_model.specs.script.Program.{Program}
 use Rattle.mpd_model.specs.steps.World.{World}
 use Rattle.mpd_model.specs.runs.Decisions.{decision}
@@ -33,5 +33,5 @@ abbrev pub narrowed : World → Decision
 narrowed w = forced_or (decision w) (only_step w)
 
 -- a run that takes the single candidate of a choice as if it were forced
-abbrev pub ran_on : Program → List (Option Break) → ℕ → ℕ → World → Ran
+abbrev pub ran_on : Program → List (Option Breakpoint) → ℕ → ℕ → World → Ran
 ran_on = ran_along narrowed

@@ -9,7 +9,7 @@ ghost use Rattle.mpd_policy.specs.declared.hits.Watched.TheVariants.{Nothing};
 use crate::breaks::Breaks;
 use mpd_code::Code;
 use mpd_core::Core;
-use mpd_model::{Activity, BREAKS_MAX, Break, CallId, Condition, Step};
+use mpd_model::{Activity, BREAKS_MAX, Breakpoint, CallId, Condition, Step};
 
 /// What a breakpoint watches.
 #[derive(Clone, Copy)]
@@ -223,14 +223,14 @@ fn held_call(core: &Core<'_>, rank: usize, handle: usize) -> Option<usize>
 }
 
 /// Whether a step hits a breakpoint of a line, of a match or of a rank, told by the state after it.
-fn is_told(core: &Core<'_>, place: Option<Break>, step: Step) -> bool
+fn is_told(core: &Core<'_>, place: Option<Breakpoint>, step: Step) -> bool
     ensures { result ≡ told_by core.now.program place step core.now.world }
 {
     match place {
-        Some(Break::Line { line, of, when }) => line_hits_step(core, line, of, when, step),
-        Some(Break::Match { line, of }) => match_hits_step(core, line, of, step),
-        Some(Break::Rank(rank)) => rank_hits_step(core, rank, step),
-        Some(Break::Change { .. }) | Some(Break::Handle { .. }) | None => false,
+        Some(Breakpoint::Line { line, of, when }) => line_hits_step(core, line, of, when, step),
+        Some(Breakpoint::Match { line, of }) => match_hits_step(core, line, of, step),
+        Some(Breakpoint::Rank(rank)) => rank_hits_step(core, rank, step),
+        Some(Breakpoint::Change { .. }) | Some(Breakpoint::Handle { .. }) | None => false,
     }
 }
 
@@ -255,18 +255,19 @@ fn of_call(call: Option<usize>) -> Watched
 }
 
 /// What a breakpoint watches.
-fn watched_by(core: &Core<'_>, stop: Break) -> Watched
+fn watched_by(core: &Core<'_>, stop: Breakpoint) -> Watched
     ensures { result ≡ watched_by core.now.world stop }
 {
     match stop {
-        Break::Change { rank, cell: number } => of_value(cell(core, rank, number)),
-        Break::Handle { rank, handle } => of_call(held_call(core, rank, handle)),
-        Break::Line { .. } | Break::Match { .. } | Break::Rank(_) => Watched::Nothing,
+        Breakpoint::Change { rank, cell: number } => of_value(cell(core, rank, number)),
+        Breakpoint::Handle { rank, handle } => of_call(held_call(core, rank, handle)),
+        Breakpoint::Line { .. } | Breakpoint::Match { .. } | Breakpoint::Rank(_) =>
+            Watched::Nothing,
     }
 }
 
 /// What the breakpoint of a place watches.
-fn watched_at(core: &Core<'_>, place: Option<Break>) -> Watched
+fn watched_at(core: &Core<'_>, place: Option<Breakpoint>) -> Watched
     ensures { result ≡ watched_at core.now.world place }
 {
     match place {
@@ -288,7 +289,7 @@ fn differ(one: Watched, other: Watched) -> bool
 }
 
 /// Whether what the breakpoint of a place watches is another than it was.
-fn is_changed(core: &Core<'_>, place: Option<Break>, value: Watched) -> bool
+fn is_changed(core: &Core<'_>, place: Option<Breakpoint>, value: Watched) -> bool
     ensures { result ≡ changed_by value place core.now.world }
 {
     match place {
@@ -306,7 +307,7 @@ impl Breaks {
         let mut values = [Watched::Nothing; BREAKS_MAX];
         let count = self.bound();
         for number in 0..count {
-            values[number] = watched_at(core, self.get(number));
+            values[number] = watched_at(core, self.breakpoint(number));
         }
         values
     }
@@ -318,7 +319,7 @@ impl Breaks {
     {
         let count = self.bound();
         for number in 0..count {
-            if is_told(core, self.get(number), step) {
+            if is_told(core, self.breakpoint(number), step) {
                 return Some(number);
             }
         }
@@ -336,7 +337,7 @@ impl Breaks {
     {
         let count = self.bound();
         for number in 0..count {
-            if is_changed(core, self.get(number), values[number]) {
+            if is_changed(core, self.breakpoint(number), values[number]) {
                 return Some(number);
             }
         }

@@ -16,13 +16,13 @@ pub mod schedule;
 pub mod wide;
 
 pub use along::{WalkEnd, ending_of, follow, put_back, walk};
-pub use breaks::Breaks;
+pub use breaks::{Break, Breaks};
 pub use chooser::Chooser;
 pub use choosers::{ByChoices, First};
 pub use decisions::{decide, decisions_can_be_followed, forced_step, only_step, sole};
 pub use ending::Ending;
 pub use last::last_hit;
-pub use mpd_model::{Break, Cause, Decision, Stop};
+pub use mpd_model::{Breakpoint, Cause, Decision, Stop};
 pub use quiet::{first_quiet, is_quiet};
 pub use runs::{run, run_back, run_on};
 pub use schedule::{Plain, Schedule, Wide};

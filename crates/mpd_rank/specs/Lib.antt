@@ -4,5 +4,6 @@ pub mod Plans
 pub mod Entries
 pub mod Locals
 pub mod Undone
+pub mod Restored
 pub mod Records
 pub mod KindRows

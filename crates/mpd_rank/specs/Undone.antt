@@ -10,8 +10,6 @@ use Rattle.mpd_code.specs.Left.{left_at}
 use Rattle.mpd_rank.specs.declared.change.LocalChange.{LocalChange}
 use Rattle.mpd_rank.specs.declared.change.LocalChange.TheVariants.{Moved, Assigned, Printed, Issued, Trapped}
 use Rattle.mpd_rank.specs.declared.change.WakeRecord.{WakeRecord}
-use Rattle.mpd_rank.specs.declared.change.RankRecord.{RankRecord}
-use Rattle.mpd_rank.specs.declared.change.RankRecord.TheVariants.{Local, Woke, Released}
 use Rattle.mpd_rank.specs.contracts.change.LocalChange as change_row
 use Rattle.mpd_rank.specs.Views.{listed}
 
@@ -65,12 +63,6 @@ unwoken r was = record r { vars = write_cells was.cells r.vars; handles = put_en
 -- a rank before a release, which let it go on from a barrier
 abbrev pub blocked_again : RankWorld → RankWorld
 blocked_again r = record r { activity = Blocked }
-
--- a rank before what it did last
-abbrev pub restored : Program → RankWorld → RankRecord → RankWorld
-restored s r (Local done) = undone_rank s r done
-restored s r (Woke was) = unwoken r was
-restored s r Released = blocked_again r
 
 -- a change that is the rank's own: it issued no call
 abbrev pub IsOwn : LocalChange → Type 0

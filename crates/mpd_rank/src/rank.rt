@@ -60,7 +60,8 @@ impl RankState {
     ghost use Rattle.mpd_model.specs.steps.Next.{env_of, local, woken_rank, going_on, write_cells, requested, activity_after};
     ghost use Rattle.mpd_rank.specs.Views.{rank_of, listed};
     ghost use Rattle.mpd_rank.specs.Plans.{planned, planned_alone, plan_ran, HasPlannedReceiver};
-    ghost use Rattle.mpd_rank.specs.Undone.{IsOwn, undone_rank, unwoken, blocked_again, restored, entry_at, entries_before, handle_entry, put_entry};
+    ghost use Rattle.mpd_rank.specs.Undone.{IsOwn, undone_rank, unwoken, blocked_again, entry_at, entries_before, handle_entry, put_entry};
+    ghost use Rattle.mpd_rank.specs.Restored.{restored};
     ghost use Rattle.mpd_rank.specs.Records.{local_record, plan_record, alone_record, wake_record, IsPlanned};
 
     /// A rank before its first step, with the whole body to run. `Err` means that memory was

@@ -1,6 +1,6 @@
 -- The last choice that was made, among two candidates or more, and the last place at which a run would have stopped.
 use Rattle.std.specs.Prelude.{ℕ, zero, suc, Bool, false, ◌||◌, nat_lt, if◌then◌else◌, Option, Some, None, is_some, codes, List, length}
-use Rattle.mpd_model.specs.declared.breakpoint.Break.{Break}
+use Rattle.mpd_model.specs.declared.breakpoint.Breakpoint.{Breakpoint}
 use Rattle.mpd_model.specs.declared.decision.Decision.{Decision}
 use Rattle.mpd_model.specs.declared.decision.Decision.TheVariants.{Forced, Choice, Leaf}
 use Rattle.mpd_model.specs.steps.World.{World}
@@ -36,16 +36,16 @@ last_choice t = greatest_below (is_open_at t) t.depth
 -- ---- the last place at which a run would have stopped
 
 -- whether the last of the first so many steps hits a breakpoint
-abbrev pub is_hit_at : List (Option Break) → Trail → ℕ → Bool
+abbrev pub is_hit_at : List (Option Breakpoint) → Trail → ℕ → Bool
 is_hit_at places t zero = false
 is_hit_at places t (suc n) = is_some (hit_at places t n)
 
 -- whether a run would have stopped after the first so many steps: they end in a step that hits a breakpoint, or a choice is open after them
-abbrev pub stops_at : List (Option Break) → Trail → ℕ → Bool
+abbrev pub stops_at : List (Option Breakpoint) → Trail → ℕ → Bool
 stops_at places t n = is_hit_at places t n || is_open_at t n
 
 -- The greatest depth below this one at which a run would have stopped, where there is one.
-abbrev pub last_stop : List (Option Break) → Trail → Option ℕ
+abbrev pub last_stop : List (Option Breakpoint) → Trail → Option ℕ
 last_stop places t = greatest_below (stops_at places t) t.depth
 
 -- whether one would stop here, given the breakpoint that the last step hits

@@ -6,7 +6,7 @@ use Rattle.mpd_model.specs.declared.call.Mode.{Mode}
 use Rattle.mpd_model.specs.declared.step.Step.{Step}
 use Rattle.mpd_model.specs.declared.decision.Decision.{Decision}
 use Rattle.mpd_model.specs.declared.decision.Decision.TheVariants.{Forced, Choice, Leaf}
-use Rattle.mpd_model.specs.declared.breakpoint.Break.{Break}
+use Rattle.mpd_model.specs.declared.breakpoint.Breakpoint.{Breakpoint}
 use Rattle.mpd_model.specs.script.Program.{Program}
 use Rattle.mpd_model.specs.steps.World.{RankWorld, World, call_at}
 use Rattle.mpd_model.specs.steps.Next.{next}
@@ -86,14 +86,14 @@ redo_fits t n =
 goto_fits : (t : Trail) (n : ℕ) → Fit t (goto_effect t n)
 goto_fits t n = depth_fits t n n (nat_lt t.depth n) NotBefore
 
-added_fits : (places : List (Option Break)) (b : Break) (o : Option ℕ) → Fit places (added_effect places b o)
+added_fits : (places : List (Option Breakpoint)) (b : Breakpoint) (o : Option ℕ) → Fit places (added_effect places b o)
 added_fits places b None = refl
 added_fits places b (Some n) = refl
 
-break_fits : (places : List (Option Break)) (w : World) (b : Break) → Fit places (break_effect places w b)
+break_fits : (places : List (Option Breakpoint)) (w : World) (b : Breakpoint) → Fit places (break_effect places w b)
 break_fits places w b = either places (is_there w b) (added_effect places b (lowest_free places)) (Refused BadNumber, places) (added_fits places b (lowest_free places)) refl
 
-unbreak_fits : (places : List (Option Break)) (n : ℕ) → Fit places (unbreak_effect places n)
+unbreak_fits : (places : List (Option Breakpoint)) (n : ℕ) → Fit places (unbreak_effect places n)
 unbreak_fits places n = either places (is_some (break_at places n)) (Changed answer.Removed, slice_set places n None) (Refused NoSuchBreak, places) refl refl
 
 -- what only looks
@@ -133,19 +133,19 @@ look_fits x (Changed a) h = absurd h
 -- ---- all commands
 
 abbrev Both : Type 0
-Both = Trail × List (Option Break)
+Both = Trail × List (Option Breakpoint)
 
-on_trail_fits : (t u : Trail) (places : List (Option Break)) (e : Effect) → Fits t e u → Fits {X = Both} (t, places) e (u, places)
+on_trail_fits : (t u : Trail) (places : List (Option Breakpoint)) (e : Effect) → Fits t e u → Fits {X = Both} (t, places) e (u, places)
 on_trail_fits t u places (Refused r) h = ap (λ (x : Trail). (x, places)) h
 on_trail_fits t u places (Told a) h = ap (λ (x : Trail). (x, places)) h
 on_trail_fits t u places (Changed a) h = h
 
-on_breaks_fits : (t : Trail) (places set : List (Option Break)) (e : Effect) → Fits places e set → Fits {X = Both} (t, places) e (t, set)
-on_breaks_fits t places set (Refused r) h = ap (λ (x : List (Option Break)). (t, x)) h
-on_breaks_fits t places set (Told a) h = ap (λ (x : List (Option Break)). (t, x)) h
+on_breaks_fits : (t : Trail) (places set : List (Option Breakpoint)) (e : Effect) → Fits places e set → Fits {X = Both} (t, places) e (t, set)
+on_breaks_fits t places set (Refused r) h = ap (λ (x : List (Option Breakpoint)). (t, x)) h
+on_breaks_fits t places set (Told a) h = ap (λ (x : List (Option Breakpoint)). (t, x)) h
 on_breaks_fits t places set (Changed a) h = h
 
-carried_fits : (t : Trail) (places : List (Option Break)) (w : World) (c : Command) → Fits {X = Both} (t, places) (carried t places w c).0 (carried t places w c).1
+carried_fits : (t : Trail) (places : List (Option Breakpoint)) (w : World) (c : Command) → Fits {X = Both} (t, places) (carried t places w c).0 (carried t places w c).1
 carried_fits t places w (command.Step a) = let q : OnTrail = step_effect t w a in on_trail_fits t q.1 places q.0 (applied_fits answer.Depth t a (next w a) (λ d. refl))
 carried_fits t places w (command.Next choice) = let q : OnTrail = next_effect t w choice (decision w) in on_trail_fits t q.1 places q.0 (next_fits t w choice (decision w))
 carried_fits t places w (command.Run max) = let q : OnTrail = run_effect t places w max in on_trail_fits t q.1 places q.0 (going_fits t max (ran t.program places max t.depth w))
@@ -168,9 +168,9 @@ carried_fits t places w (command.Look l) = look_fits {X = Both} (t, places) (loo
 
 -- ---- a request
 
-finish_stays : (s : Held) (e : Effect) (y : Trail × List (Option Break)) → Fits {X = Both} (s.trail, s.breaks) e y → holds_list (reply_to s.version e) ≡ true → record { trail = y.0; breaks = y.1; version = version_then s.version e } ≡ s
+finish_stays : (s : Held) (e : Effect) (y : Trail × List (Option Breakpoint)) → Fits {X = Both} (s.trail, s.breaks) e y → holds_list (reply_to s.version e) ≡ true → record { trail = y.0; breaks = y.1; version = version_then s.version e } ≡ s
 finish_stays s (Refused r) y h list = absurd cc
-finish_stays s (Told a) y h list = ap (λ (x : Trail × List (Option Break)). record { trail = x.0; breaks = x.1; version = s.version }) h
+finish_stays s (Told a) y h list = ap (λ (x : Trail × List (Option Breakpoint)). record { trail = x.0; breaks = x.1; version = s.version }) h
 finish_stays s (Changed a) y h list = absurd (cc)
 
 stays_by : (b : Bool) (s : Held) (p q : Reply × Held) → (holds_list p.0 ≡ true → p.1 ≡ s) → (holds_list q.0 ≡ true → q.1 ≡ s) → holds_list (cond b p q).0 ≡ true → (cond b p q).1 ≡ s
@@ -221,7 +221,7 @@ going_keeps t max r = keeps_by t (is_within 1 STEPS_MAX max) (ran_effect t r) (R
 depth_keeps : (t : Trail) (m : ℕ) (b : Bool) (r : Refusal) → Keeps t (cond b (Refused r, t) (at_depth t m)).1
 depth_keeps t m b r = keeps_by t b (Refused r, t) (at_depth t m) (refl, refl) (refl, refl)
 
-carried_keeps : (t : Trail) (places : List (Option Break)) (w : World) (c : Command) → Keeps t (carried t places w c).1.0
+carried_keeps : (t : Trail) (places : List (Option Breakpoint)) (w : World) (c : Command) → Keeps t (carried t places w c).1.0
 carried_keeps t places w (command.Step a) = applied_keeps answer.Depth t a (next w a)
 carried_keeps t places w (command.Next choice) = next_keeps t w choice (decision w)
 carried_keeps t places w (command.Run max) = going_keeps t max (ran t.program places max t.depth w)

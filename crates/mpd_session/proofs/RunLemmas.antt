@@ -1,7 +1,7 @@
 -- What runs come to.
 use Rattle.std.proofs.Common.{◌≡◌, ℕ, zero, suc, ◌+◌, ◌-◌, ◌≤◌, true, List, [], ◌∷◌, length, take, Option, refl, ap, sym, ◌∙◌, arith}
 use Rattle.mpd_model.specs.declared.step.Step.{Step}
-use Rattle.mpd_model.specs.declared.breakpoint.Break.{Break}
+use Rattle.mpd_model.specs.declared.breakpoint.Breakpoint.{Breakpoint}
 use Rattle.mpd_model.specs.declared.breakpoint.Stop.{Stop}
 use Rattle.mpd_model.specs.steps.World.{World}
 use Rattle.mpd_model.specs.runs.Trail.{Trail, IsReached, applied, gone_back, forgotten}
@@ -25,12 +25,12 @@ run_0 t u r max depth stop e is leads d =
 pub run_1 : (t u : Trail) (r : Ran) (max : ℕ) → is_within 1 1000000 max ≡ true → u ≡ all_applied t r.steps → u ≡ (going_effect t max r).1
 run_1 t u r max e leads = leads ∙ ap (λ (p : OnTrail). p.1) (sym (in_range t max r e))
 
-pub back_0 : (t u : Trail) (places : List (Option Break)) (depth : ℕ) (stop : Stop) → stop ≡ ran_back places t t.depth → u ≡ gone_back t (t.depth - stop.steps) → depth ≡ u.depth
+pub back_0 : (t u : Trail) (places : List (Option Breakpoint)) (depth : ℕ) (stop : Stop) → stop ≡ ran_back places t t.depth → u ≡ gone_back t (t.depth - stop.steps) → depth ≡ u.depth
     → Changed (answer.Ran depth stop) ≡ (run_back_effect t places).0
 back_0 t u places depth stop is leads d =
     ap (λ n. Changed (answer.Ran n stop)) (d ∙ ap (λ (x : Trail). x.depth) leads) ∙ ap (λ (x : Stop). (run_back_by t x).0) is
 
-pub back_1 : (t u : Trail) (places : List (Option Break)) (stop : Stop) → stop ≡ ran_back places t t.depth → u ≡ gone_back t (t.depth - stop.steps) → u ≡ (run_back_effect t places).1
+pub back_1 : (t u : Trail) (places : List (Option Breakpoint)) (stop : Stop) → stop ≡ ran_back places t t.depth → u ≡ gone_back t (t.depth - stop.steps) → u ≡ (run_back_effect t places).1
 back_1 t u places stop is leads = leads ∙ ap (λ (x : Stop). (run_back_by t x).1) is
 
 -- a copy has no undone step

@@ -8,8 +8,8 @@ use Rattle.mpd_model.specs.declared.step.Step.{Step}
 use Rattle.mpd_model.specs.declared.decision.Decision.{Decision}
 use Rattle.mpd_model.specs.declared.decision.Decision.TheVariants.{Forced, Choice, Leaf}
 use Rattle.mpd_model.specs.declared.breakpoint.Condition.{Condition}
-use Rattle.mpd_model.specs.declared.breakpoint.Break.{Break}
-use Rattle.mpd_model.specs.declared.breakpoint.Break.TheVariants as on
+use Rattle.mpd_model.specs.declared.breakpoint.Breakpoint.{Breakpoint}
+use Rattle.mpd_model.specs.declared.breakpoint.Breakpoint.TheVariants as on
 use Rattle.mpd_model.specs.declared.breakpoint.Stop.{Stop}
 use Rattle.mpd_model.specs.steps.World.{RankWorld, World, call_id, rank_numbers, call_numbers, call_at}
 use Rattle.mpd_model.specs.steps.Next.{next, enabled}
@@ -69,16 +69,16 @@ ran_effect t r = (Changed (answer.Ran (t.depth + length r.steps) (stop_of r)), a
 abbrev pub going_effect : Trail → ℕ → Ran → OnTrail
 going_effect t max r = if is_within 1 STEPS_MAX max then ran_effect t r else (Refused BadNumber, t)
 
-abbrev pub run_effect : Trail → List (Option Break) → World → ℕ → OnTrail
+abbrev pub run_effect : Trail → List (Option Breakpoint) → World → ℕ → OnTrail
 run_effect t places w max = going_effect t max (ran t.program places max t.depth w)
 
-abbrev pub run_on_effect : Trail → List (Option Break) → World → ℕ → OnTrail
+abbrev pub run_on_effect : Trail → List (Option Breakpoint) → World → ℕ → OnTrail
 run_on_effect t places w max = going_effect t max (ran_on t.program places max t.depth w)
 
 abbrev pub run_back_by : Trail → Stop → OnTrail
 run_back_by t stop = (Changed (answer.Ran (t.depth - stop.steps) stop), gone_back t (t.depth - stop.steps))
 
-abbrev pub run_back_effect : Trail → List (Option Break) → OnTrail
+abbrev pub run_back_effect : Trail → List (Option Breakpoint) → OnTrail
 run_back_effect t places = run_back_by t (ran_back places t t.depth)
 
 -- so many steps are not undone then
@@ -103,7 +103,7 @@ goto_effect t n = if nat_lt t.depth n then (Refused NotBefore, t) else at_depth 
 -- ---- commands that lead to other breakpoints
 
 abbrev pub OnBreaks : Type 0
-OnBreaks = Effect × List (Option Break)
+OnBreaks = Effect × List (Option Breakpoint)
 
 abbrev pub has_handle : Option RankWorld → ℕ → Bool
 has_handle None h = false
@@ -124,21 +124,21 @@ has_compared w of None = true
 has_compared w of (Some c) = is_some (cell_at w (first_meant of) c.cell)
 
 -- The lines of a script are 1 to LINES_MAX.
-abbrev pub is_there : World → Break → Bool
+abbrev pub is_there : World → Breakpoint → Bool
 is_there w (on.Line n of when) = is_within 1 LINES_MAX n && (has_meant w of && has_compared w of when)
 is_there w (on.Change p c) = is_some (cell_at w p c)
 is_there w (on.Handle p h) = has_handle (slice_get w.ranks p) h
 is_there w (on.Match n of) = is_within 1 LINES_MAX n && has_meant w of
 is_there w (on.Rank p) = nat_lt p (length w.ranks)
 
-abbrev pub added_effect : List (Option Break) → Break → Option ℕ → OnBreaks
+abbrev pub added_effect : List (Option Breakpoint) → Breakpoint → Option ℕ → OnBreaks
 added_effect places b None = (Refused BreaksFull, places)
 added_effect places b (Some n) = (Changed (answer.Added n), slice_set places n (Some b))
 
-abbrev pub break_effect : List (Option Break) → World → Break → OnBreaks
+abbrev pub break_effect : List (Option Breakpoint) → World → Breakpoint → OnBreaks
 break_effect places w b = if is_there w b then added_effect places b (lowest_free places) else (Refused BadNumber, places)
 
-abbrev pub unbreak_effect : List (Option Break) → ℕ → OnBreaks
+abbrev pub unbreak_effect : List (Option Breakpoint) → ℕ → OnBreaks
 unbreak_effect places n = if is_some (break_at places n) then (Changed answer.Removed, slice_set places n None) else (Refused NoSuchBreak, places)
 
 -- ---- commands that change nothing
@@ -182,22 +182,22 @@ line_text n of when = codes " line " ++ decimal n ++ meant_text of ++ when_text 
 abbrev pub match_text : ℕ → Option ℕ → List ℕ
 match_text n of = codes " match " ++ decimal n ++ meant_text of
 
-abbrev pub break_text : Break → List ℕ
+abbrev pub break_text : Breakpoint → List ℕ
 break_text (on.Line n of when) = line_text n of when
 break_text (on.Change p c) = codes " change " ++ decimal p ++ 32 ∷ decimal c
 break_text (on.Handle p h) = codes " handle " ++ decimal p ++ 32 ∷ decimal h
 break_text (on.Match n of) = match_text n of
 break_text (on.Rank p) = codes " rank " ++ decimal p
 
-abbrev pub place_texts : ℕ → Option Break → List (List ℕ)
+abbrev pub place_texts : ℕ → Option Breakpoint → List (List ℕ)
 place_texts n None = []
 place_texts n (Some b) = (decimal n ++ break_text b) ∷ []
 
-abbrev pub breaks_effect : List (Option Break) → Effect
+abbrev pub breaks_effect : List (Option Breakpoint) → Effect
 breaks_effect places = Told (answer.Breaks (flat_map (λ n. place_texts n (break_at places n)) (range_with_len 0 BREAKS_MAX)))
 
 -- the lowest breakpoint that the last step hits
-abbrev pub hit_effect : List (Option Break) → Trail → Effect
+abbrev pub hit_effect : List (Option Breakpoint) → Trail → Effect
 hit_effect places t = Told (answer.Hit (last_hit places t))
 
 abbrev pub leaves_effect : ℕ → List RunLeaf → Effect

@@ -1,6 +1,6 @@
 -- What a session replies to a request, and what it holds then.
 use Rattle.std.specs.Prelude.{◌≡◌, ℕ, ◌+◌, ◌==◌, Bool, true, false, if◌then◌else◌, List, Option, Some, None}
-use Rattle.mpd_model.specs.declared.breakpoint.Break.{Break}
+use Rattle.mpd_model.specs.declared.breakpoint.Breakpoint.{Breakpoint}
 use Rattle.mpd_model.specs.steps.World.{World}
 use Rattle.mpd_model.specs.runs.Decisions.{decision}
 use Rattle.mpd_model.specs.declared.step.Step.{Step}
@@ -21,15 +21,15 @@ use Rattle.mpd_session.specs.Looks.{look_effect}
 -- ---- what a command comes to, with what is changed
 
 abbrev pub Carried : Type 0
-Carried = Effect × (Trail × List (Option Break))
+Carried = Effect × (Trail × List (Option Breakpoint))
 
-abbrev pub on_trail : List (Option Break) → Effect × Trail → Carried
+abbrev pub on_trail : List (Option Breakpoint) → Effect × Trail → Carried
 on_trail places q = (q.0, (q.1, places))
 
-abbrev pub on_breaks : Trail → Effect × List (Option Break) → Carried
+abbrev pub on_breaks : Trail → Effect × List (Option Breakpoint) → Carried
 on_breaks t q = (q.0, (t, q.1))
 
-abbrev pub carried : Trail → List (Option Break) → World → Command → Carried
+abbrev pub carried : Trail → List (Option Breakpoint) → World → Command → Carried
 carried t places w (command.Step a) = on_trail places (step_effect t w a)
 carried t places w (command.Next choice) = on_trail places (next_effect t w choice (decision w))
 carried t places w (command.Run max) = on_trail places (run_effect t places w max)

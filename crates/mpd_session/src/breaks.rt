@@ -12,7 +12,7 @@ use crate::limits::LINES_MAX;
 use crate::looks::push_text;
 use crate::reply::{Answer, Refusal, TextList};
 use mpd_core::Core;
-use mpd_model::{BREAKS_MAX, Break, Condition, push_compared, push_meant};
+use mpd_model::{BREAKS_MAX, Breakpoint, Condition, push_compared, push_meant};
 use mpd_policy::{Breaks, last_hit};
 use mpd_trail::Debugger;
 use std::alloc::{AllocError, Global};
@@ -71,30 +71,30 @@ fn has_compared(core: &Core<'_>, of: Option<usize>, when: Option<Condition>) -> 
 }
 
 /// Whether there is what a breakpoint names.
-pub fn is_there(core: &Core<'_>, stop: Break) -> bool
+pub fn is_there(core: &Core<'_>, stop: Breakpoint) -> bool
     ensures { result ≡ spec.is_there core.now.world stop }
 {
     match stop {
-        Break::Line { line, of, when } => {
+        Breakpoint::Line { line, of, when } => {
             is_within(1, LINES_MAX, line) && (has_meant(core, of) && has_compared(core, of, when))
         }
-        Break::Change { rank, cell } => has_cell(core, rank, cell),
-        Break::Handle { rank, handle } => has_handle(core, rank, handle),
-        Break::Match { line, of } => is_within(1, LINES_MAX, line) && has_meant(core, of),
-        Break::Rank(rank) => rank < core.rank_count(),
+        Breakpoint::Change { rank, cell } => has_cell(core, rank, cell),
+        Breakpoint::Handle { rank, handle } => has_handle(core, rank, handle),
+        Breakpoint::Match { line, of } => is_within(1, LINES_MAX, line) && has_meant(core, of),
+        Breakpoint::Rank(rank) => rank < core.rank_count(),
     }
 }
 
 /// Adds a breakpoint. It takes no memory.
 #[tactic(auto, using(crate::proofs::BreakLemmas::adding))]
-pub fn add(core: &Core<'_>, breaks: &mut Breaks, stop: Break) -> Effect
+pub fn add(core: &Core<'_>, breaks: &mut Breaks, stop: Breakpoint) -> Effect
     ensures effect { result ≡ (break_effect breaks.old core.now.world stop).0 }
     ensures breaks { breaks.new ≡ (break_effect breaks.old core.now.world stop).1 }
 {
     if !is_there(core, stop) {
         return Effect::Refused(Refusal::BadNumber);
     }
-    match breaks.add(stop) {
+    match breaks.add_breakpoint(stop) {
         None => Effect::Refused(Refusal::BreaksFull),
         Some(number) => Effect::Changed(Answer::Added(number)),
     }
@@ -106,7 +106,7 @@ pub fn remove(breaks: &mut Breaks, number: usize) -> Effect
     ensures effect { result ≡ (unbreak_effect breaks.old number).0 }
     ensures breaks { breaks.new ≡ (unbreak_effect breaks.old number).1 }
 {
-    if breaks.get(number).is_none() {
+    if breaks.breakpoint(number).is_none() {
         return Effect::Refused(Refusal::NoSuchBreak);
     }
     let _ = breaks.remove(number);
@@ -156,15 +156,15 @@ fn match_text_of(
 }
 
 /// A breakpoint as text. `Err` means that memory was refused.
-fn text_of(alloc: Global, number: usize, stop: Break) -> Result<String, AllocError>
+fn text_of(alloc: Global, number: usize, stop: Breakpoint) -> Result<String, AllocError>
     ensures { IfOk result (λ t. string_bytes t ≡ decimal number ++ break_text stop) }
 {
     match stop {
-        Break::Line { line, of, when } => line_text_of(alloc, number, line, of, when),
-        Break::Change { rank, cell } => format!(in alloc; "{number} change {rank} {cell}"),
-        Break::Handle { rank, handle } => format!(in alloc; "{number} handle {rank} {handle}"),
-        Break::Match { line, of } => match_text_of(alloc, number, line, of),
-        Break::Rank(rank) => format!(in alloc; "{number} rank {rank}"),
+        Breakpoint::Line { line, of, when } => line_text_of(alloc, number, line, of, when),
+        Breakpoint::Change { rank, cell } => format!(in alloc; "{number} change {rank} {cell}"),
+        Breakpoint::Handle { rank, handle } => format!(in alloc; "{number} handle {rank} {handle}"),
+        Breakpoint::Match { line, of } => match_text_of(alloc, number, line, of),
+        Breakpoint::Rank(rank) => format!(in alloc; "{number} rank {rank}"),
     }
 }
 
@@ -173,7 +173,7 @@ fn push_place(
     alloc: Global,
     texts: &mut Vec<String>,
     number: usize,
-    place: Option<Break>,
+    place: Option<Breakpoint>,
 ) -> Result<(), AllocError>
     ensures { OnOk result (map string_bytes texts.new.items ≡ map string_bytes texts.old.items ++ place_texts number place) }
 {
@@ -190,7 +190,7 @@ pub fn list(alloc: Global, breaks: &Breaks) -> Result<Effect, AllocError>
     let mut items = Vec::new(alloc);
     let count = BREAKS_MAX;
     for number in 0..count {
-        push_place(alloc, &mut items, number, breaks.get(number))?;
+        push_place(alloc, &mut items, number, breaks.breakpoint(number))?;
     }
     Ok(Effect::Told(Answer::Breaks(TextList { items })))
 }

@@ -1,6 +1,6 @@
 //! What a client asks (docs/SESSIONS.md, "Requests").
 
-use mpd_model::{Break, CallId, Step};
+use mpd_model::{Breakpoint, CallId, Step};
 
 /// What a client is told of the script, of all ranks and of steps (docs/SESSIONS.md, "Looks"); nothing changes by it.
 #[derive(Clone, Copy)]
@@ -58,7 +58,7 @@ pub enum Command {
     /// List what this call could be matched with, and what holds each of these back.
     Why(CallId),
     /// Set this breakpoint.
-    Break(Break),
+    Break(Breakpoint),
     /// Remove the breakpoint of this number, 0 to 63.
     Unbreak(usize),
     /// List the breakpoints.

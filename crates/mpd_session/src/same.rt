@@ -2,7 +2,7 @@
 
 ghost use Rattle.std.specs.Prelude.{◌≡◌, map, string_bytes};
 ghost use Rattle.std.specs.Bool.{Decides};
-ghost use Rattle.mpd_model.specs.declared.breakpoint.Break.TheVariants as on;
+ghost use Rattle.mpd_model.specs.declared.breakpoint.Breakpoint.TheVariants as on;
 ghost use Rattle.mpd_session.specs.declared.request.Command.TheVariants as commands;
 ghost use Rattle.mpd_session.specs.declared.request.Command.TheVariants.{Explore};
 ghost use Rattle.mpd_session.specs.declared.request.Look.TheVariants.{Steps};
@@ -14,7 +14,7 @@ use crate::reply::{
     Refusal, Reply, Text, TextList,
 };
 use crate::request::{Command, Look, Request};
-use mpd_model::{Break, CallId, Condition, Mode, Step, Stop};
+use mpd_model::{Breakpoint, CallId, Condition, Mode, Step, Stop};
 
 /// Whether a command is to explore with these limits.
 fn is_explore(command: Command, runs: usize, fuel: usize) -> bool
@@ -88,11 +88,11 @@ fn same_when(one: Option<Condition>, other: Option<Condition>) -> bool
 }
 
 /// Whether a breakpoint is on this line, of this rank or of any, with this condition or none.
-fn is_on_line(stop: Break, line: usize, of: Option<usize>, when: Option<Condition>) -> bool
+fn is_on_line(stop: Breakpoint, line: usize, of: Option<usize>, when: Option<Condition>) -> bool
     ensures { Decides result (on.Line line of when ≡ stop) }
 {
     match stop {
-        Break::Line {
+        Breakpoint::Line {
             line: place,
             of: own,
             when: also,
@@ -102,11 +102,11 @@ fn is_on_line(stop: Break, line: usize, of: Option<usize>, when: Option<Conditio
 }
 
 /// Whether a breakpoint is on matches of this line, of this rank or of any.
-fn is_on_match(stop: Break, line: usize, of: Option<usize>) -> bool
+fn is_on_match(stop: Breakpoint, line: usize, of: Option<usize>) -> bool
     ensures { Decides result (on.Match line of ≡ stop) }
 {
     match stop {
-        Break::Match {
+        Breakpoint::Match {
             line: place,
             of: own,
         } => place == line && own == of,
@@ -115,11 +115,11 @@ fn is_on_match(stop: Break, line: usize, of: Option<usize>) -> bool
 }
 
 /// Whether a breakpoint is on this cell of this rank.
-fn is_on_change(stop: Break, rank: usize, cell: usize) -> bool
+fn is_on_change(stop: Breakpoint, rank: usize, cell: usize) -> bool
     ensures { Decides result (on.Change rank cell ≡ stop) }
 {
     match stop {
-        Break::Change {
+        Breakpoint::Change {
             rank: own,
             cell: place,
         } => own == rank && place == cell,
@@ -128,11 +128,11 @@ fn is_on_change(stop: Break, rank: usize, cell: usize) -> bool
 }
 
 /// Whether a breakpoint is on this handle of this rank.
-fn is_on_handle(stop: Break, rank: usize, handle: usize) -> bool
+fn is_on_handle(stop: Breakpoint, rank: usize, handle: usize) -> bool
     ensures { Decides result (on.Handle rank handle ≡ stop) }
 {
     match stop {
-        Break::Handle {
+        Breakpoint::Handle {
             rank: own,
             handle: place,
         } => own == rank && place == handle,
@@ -141,20 +141,20 @@ fn is_on_handle(stop: Break, rank: usize, handle: usize) -> bool
 }
 
 /// Whether two breakpoints are one.
-fn same_break(one: Break, other: Break) -> bool
+fn same_break(one: Breakpoint, other: Breakpoint) -> bool
     ensures { Decides result (one ≡ other) }
 {
     match one {
-        Break::Line { line, of, when } => is_on_line(other, line, of, when),
-        Break::Change { rank, cell } => is_on_change(other, rank, cell),
-        Break::Handle { rank, handle } => is_on_handle(other, rank, handle),
-        Break::Match { line, of } => is_on_match(other, line, of),
-        Break::Rank(rank) => matches!(other, Break::Rank(also) if also == rank),
+        Breakpoint::Line { line, of, when } => is_on_line(other, line, of, when),
+        Breakpoint::Change { rank, cell } => is_on_change(other, rank, cell),
+        Breakpoint::Handle { rank, handle } => is_on_handle(other, rank, handle),
+        Breakpoint::Match { line, of } => is_on_match(other, line, of),
+        Breakpoint::Rank(rank) => matches!(other, Breakpoint::Rank(also) if also == rank),
     }
 }
 
 /// Whether a command is to set this breakpoint.
-fn is_break(command: Command, stop: Break) -> bool
+fn is_break(command: Command, stop: Breakpoint) -> bool
     ensures { Decides result (commands.Break stop ≡ command) }
 {
     match command {

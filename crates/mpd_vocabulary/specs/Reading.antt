@@ -3,8 +3,8 @@ use Rattle.std.specs.Prelude.{ℕ, ◌+◌, ◌==◌, Bool, true, false, bytes_e
 use Rattle.std.specs.List.{position}
 use Rattle.mpd_model.specs.declared.limits.TheConstants.{STEPS_MAX}
 use Rattle.mpd_model.specs.declared.breakpoint.Condition.{Condition}
-use Rattle.mpd_model.specs.declared.breakpoint.Break.{Break}
-use Rattle.mpd_model.specs.declared.breakpoint.Break.TheVariants as on
+use Rattle.mpd_model.specs.declared.breakpoint.Breakpoint.{Breakpoint}
+use Rattle.mpd_model.specs.declared.breakpoint.Breakpoint.TheVariants as on
 use Rattle.mpd_model.specs.declared.place.DeclKind.{DeclKind}
 use Rattle.mpd_model.specs.declared.place.DeclKind.TheVariants.{Variable, Handle}
 use Rattle.mpd_model.specs.declared.words.TraceWord.{TraceWord}
@@ -82,7 +82,7 @@ step_in z = step_by (trace_word_of z)
 
 -- ---- breakpoints
 
-abbrev pub break_on : ℕ → DeclKind → ℕ → Break
+abbrev pub break_on : ℕ → DeclKind → ℕ → Breakpoint
 break_on p Variable c = on.Change p c
 break_on p Handle h = on.Handle p h
 

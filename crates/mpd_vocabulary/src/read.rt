@@ -10,7 +10,7 @@ use crate::value::asks_value;
 use crate::word::{HelpOn, Word, WordFault};
 use mpd_code::Code;
 use mpd_model::{
-    Break, CallId, DeclKind, STEPS_MAX, TraceWord, call_of, has_word, next_word, number_of,
+    Breakpoint, CallId, DeclKind, STEPS_MAX, TraceWord, call_of, has_word, next_word, number_of,
     trace_word_of,
 };
 use mpd_names::{NameFault, Named, find_named};
@@ -107,12 +107,12 @@ fn step_in(line: &[u8]) -> Option<Word>
 }
 
 /// The breakpoint on a cell of a variable, or on a handle.
-fn break_on(rank: usize, kind: DeclKind, number: usize) -> Break
+fn break_on(rank: usize, kind: DeclKind, number: usize) -> Breakpoint
     ensures { result ≡ spec.break_on rank kind number }
 {
     match kind {
-        DeclKind::Variable => Break::Change { rank, cell: number },
-        DeclKind::Handle => Break::Handle {
+        DeclKind::Variable => Breakpoint::Change { rank, cell: number },
+        DeclKind::Handle => Breakpoint::Handle {
             rank,
             handle: number,
         },
@@ -193,7 +193,7 @@ fn conditioned(
     ensures { result ≡ spec.conditioned code.now.program.decls line of place (words rest.now) }
 {
     let Some((word, behind)) = next_word(rest) else {
-        return Ok(Word::Break(Break::Line {
+        return Ok(Word::Break(Breakpoint::Line {
             line,
             of,
             when: None,
@@ -202,7 +202,7 @@ fn conditioned(
     if word == b"if".as_slice() {
         return match condition_in(code, place + 1, behind) {
             Err(fault) => Err(fault),
-            Ok(condition) => Ok(Word::Break(Break::Line {
+            Ok(condition) => Ok(Word::Break(Breakpoint::Line {
                 line,
                 of,
                 when: Some(condition),
@@ -273,7 +273,7 @@ fn match_in(rest: &[u8]) -> Option<Word>
     let (line, behind) = next_word(rest)?;
     let line = number_of(line)?;
     let of = meant_in(behind)?;
-    Some(Word::Break(Break::Match { line, of }))
+    Some(Word::Break(Breakpoint::Match { line, of }))
 }
 
 /// The breakpoint of a rank.
@@ -282,7 +282,7 @@ fn rank_in(rest: &[u8]) -> Option<Word>
 {
     match only_number(rest) {
         None => None,
-        Some(rank) => Some(Word::Break(Break::Rank(rank))),
+        Some(rank) => Some(Word::Break(Breakpoint::Rank(rank))),
     }
 }
 

@@ -1,7 +1,7 @@
 //! What a line of the console asks for.
 
 use crate::topic::Topic;
-use mpd_model::{Break, CallId, Step};
+use mpd_model::{Breakpoint, CallId, Step};
 use mpd_names::Named;
 
 /// A word with what follows it. Numbers are as they were given, whatever the script has; where one may be left out and is, its usual
@@ -33,7 +33,7 @@ pub enum Word {
     /// Take this step.
     Step(Step),
     /// Set this breakpoint.
-    Break(Break),
+    Break(Breakpoint),
     /// Remove the breakpoint of this number.
     Delete(usize),
     /// List the breakpoints.

@@ -3,7 +3,7 @@ use Rattle.std.specs.Prelude.{◌≡◌, negsuc, [], ◌∷◌, codes, Some, Non
 use Rattle.std.specs.Str.{chars, is_utf8}
 use Rattle.serde_json.proofs.OnLiterals.{serde_json_on_literals}
 use Rattle.mpd_model.specs.declared.comparison.Comparison.TheVariants.{AtMost}
-use Rattle.mpd_model.specs.declared.breakpoint.Break.TheVariants as on
+use Rattle.mpd_model.specs.declared.breakpoint.Breakpoint.TheVariants as on
 use Rattle.mpd_model.specs.steps.World.{call_id}
 use Rattle.mpd_session.specs.declared.request.Command.{Command}
 use Rattle.mpd_session.specs.declared.request.Command.TheVariants as command

@@ -7,8 +7,8 @@ use crate::progress::{OfPiece, Progress};
 use crate::summary::{Limit, Made, say_counts, say_least, say_part, say_states, say_tally};
 use crate::tell::Fault;
 use mpd_check::{
-    CheckFault, OutcomesPlan, SamplePlan, Tally, Telling, Tried, Wanted, check, check_listing,
-    check_mode, check_mode_outcomes, check_outcomes, check_piece, check_sample, count_pieces,
+    CheckFault, OutcomesPlan, SamplePlan, Tally, Telling, Tried, Wanted, check_listing, check_mode,
+    check_mode_outcomes, check_outcomes, check_piece, check_sample, check_search, count_pieces,
     is_crew, put_least,
 };
 use mpd_code::{Code, Subject};
@@ -201,7 +201,7 @@ fn check_told<R: Clock + Eprint + Threads + Sync + AllocGlobal, W: Sink>(
 {
     let crew = crew_of(rt, options);
     if !options.explain && !options.group {
-        return check(
+        return check_search(
             crew,
             rt.alloc(),
             script.subject,

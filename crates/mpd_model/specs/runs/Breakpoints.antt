@@ -10,8 +10,8 @@ use Rattle.mpd_model.specs.declared.step.CallId.{CallId}
 use Rattle.mpd_model.specs.declared.step.Step.{Step}
 use Rattle.mpd_model.specs.declared.step.Step.TheVariants.{Local, Match, Wake, WakeAny, Release}
 use Rattle.mpd_model.specs.declared.breakpoint.Condition.{Condition}
-use Rattle.mpd_model.specs.declared.breakpoint.Break.{Break}
-use Rattle.mpd_model.specs.declared.breakpoint.Break.TheVariants as on
+use Rattle.mpd_model.specs.declared.breakpoint.Breakpoint.{Breakpoint}
+use Rattle.mpd_model.specs.declared.breakpoint.Breakpoint.TheVariants as on
 use Rattle.mpd_model.specs.script.Program.{Program}
 use Rattle.mpd_model.specs.steps.World.{RankWorld, World, Board, rank_numbers, call_at}
 use Rattle.mpd_model.specs.steps.Next.{is_blocked}
@@ -131,7 +131,7 @@ abbrev pub rank_hits : ℕ → Step → World → Bool
 rank_hits p a new = is_step_of p a && is_unblocked (slice_get new.ranks p)
 
 -- whether a breakpoint is hit by the step that led from one world to the next
-abbrev pub is_hit : Program → Break → World → Step → World → Bool
+abbrev pub is_hit : Program → Breakpoint → World → Step → World → Bool
 is_hit s (on.Line line of when) old a new = line_hits s line of when a new
 is_hit s (on.Change p c) old a new = not (same_value (cell_at old p c) (cell_at new p c))
 is_hit s (on.Handle p h) old a new = not (same_number (handle_at old p h) (handle_at new p h))
@@ -140,20 +140,20 @@ is_hit s (on.Rank p) old a new = rank_hits p a new
 
 -- ---- numbered places, each for a breakpoint
 
-abbrev pub no_breaks : List (Option Break)
+abbrev pub no_breaks : List (Option Breakpoint)
 no_breaks = replicate BREAKS_MAX None
 
-abbrev pub break_at : List (Option Break) → ℕ → Option Break
+abbrev pub break_at : List (Option Breakpoint) → ℕ → Option Breakpoint
 break_at places n = slice_index_or places n None
 
 -- the lowest number whose place is free
-abbrev pub lowest_free : List (Option Break) → Option ℕ
+abbrev pub lowest_free : List (Option Breakpoint) → Option ℕ
 lowest_free places = first_in (filter (λ n. is_none (break_at places n)) (range_with_len 0 (length places)))
 
-abbrev pub hit_by : Program → Option Break → World → Step → World → Bool
+abbrev pub hit_by : Program → Option Breakpoint → World → Step → World → Bool
 hit_by s None old a new = false
 hit_by s (Some b) old a new = is_hit s b old a new
 
 -- the lowest breakpoint that a step hits
-abbrev pub lowest_hit : Program → List (Option Break) → World → Step → World → Option ℕ
+abbrev pub lowest_hit : Program → List (Option Breakpoint) → World → Step → World → Option ℕ
 lowest_hit s places old a new = first_in (filter (λ n. hit_by s (break_at places n) old a new) (range_with_len 0 (length places)))

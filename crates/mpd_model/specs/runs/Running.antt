@@ -4,7 +4,7 @@ use Rattle.mpd_model.specs.declared.limits.TheConstants.{STEPS_MAX}
 use Rattle.mpd_model.specs.declared.step.Step.{Step}
 use Rattle.mpd_model.specs.declared.decision.Decision.{Decision}
 use Rattle.mpd_model.specs.declared.decision.Decision.TheVariants as next_is
-use Rattle.mpd_model.specs.declared.breakpoint.Break.{Break}
+use Rattle.mpd_model.specs.declared.breakpoint.Breakpoint.{Breakpoint}
 use Rattle.mpd_model.specs.declared.breakpoint.Cause.{Cause}
 use Rattle.mpd_model.specs.declared.breakpoint.Cause.TheVariants as for
 use Rattle.mpd_model.specs.declared.breakpoint.Stop.{Stop}
@@ -29,11 +29,11 @@ behind a (Some n) more = record { steps = a ∷ []; cause = for.Break n }
 behind a None more = record { steps = a ∷ more.steps; cause = more.cause }
 
 -- Before a step the run stops at a leaf, at a choice, and where so many steps are not undone.
-abbrev pub ran_taking : (World → Ran) → Program → List (Option Break) → World → Step → Option World → Ran
+abbrev pub ran_taking : (World → Ran) → Program → List (Option Breakpoint) → World → Step → Option World → Ran
 ran_taking more s places w a None = stopped for.Leaf
 ran_taking more s places w a (Some v) = behind a (lowest_hit s places w a v) (more v)
 
-abbrev pub ran_by : (World → Ran) → Program → List (Option Break) → ℕ → World → Decision → Ran
+abbrev pub ran_by : (World → Ran) → Program → List (Option Breakpoint) → ℕ → World → Decision → Ran
 ran_by more s places depth w (next_is.Forced a) = if depth == STEPS_MAX then stopped for.Full else ran_taking more s places w a (next w a)
 ran_by more s places depth w (next_is.Choice steps) = stopped for.Choice
 ran_by more s places depth w (next_is.Leaf o) = stopped for.Leaf
@@ -44,12 +44,12 @@ at_most depth (next_is.Choice steps) = for.Choice
 at_most depth (next_is.Leaf o) = for.Leaf
 
 -- a run of at most so many steps, from a world after so many steps, along what comes next in each world
-abbrev pub ran_along : (World → Decision) → Program → List (Option Break) → ℕ → ℕ → World → Ran
+abbrev pub ran_along : (World → Decision) → Program → List (Option Breakpoint) → ℕ → ℕ → World → Ran
 ran_along comes s places zero depth w = stopped (at_most depth (comes w))
 ran_along comes s places (suc n) depth w = ran_by (ran_along comes s places n (depth + 1)) s places depth w (comes w)
 
 -- a run along decisions
-abbrev pub ran : Program → List (Option Break) → ℕ → ℕ → World → Ran
+abbrev pub ran : Program → List (Option Breakpoint) → ℕ → ℕ → World → Ran
 ran = ran_along decision
 
 -- a trail with these steps taken, one after another
@@ -66,14 +66,14 @@ stop_of r = record { steps = length r.steps; cause = r.cause }
 abbrev pub world_at : Trail → ℕ → Option World
 world_at t n = fold (start t.program t.mode) (take n t.steps)
 
-abbrev pub hit_of : Program → List (Option Break) → Option World → Option Step → Option World → Option ℕ
+abbrev pub hit_of : Program → List (Option Breakpoint) → Option World → Option Step → Option World → Option ℕ
 hit_of s places (Some old) (Some a) (Some new) = lowest_hit s places old a new
 hit_of s places (Some old) (Some a) None = None
 hit_of s places (Some old) None new = None
 hit_of s places None a new = None
 
 -- the lowest breakpoint that the step after the first so many hits
-abbrev pub hit_at : List (Option Break) → Trail → ℕ → Option ℕ
+abbrev pub hit_at : List (Option Breakpoint) → Trail → ℕ → Option ℕ
 hit_at places t n = hit_of t.program places (world_at t n) (slice_get t.steps n) (world_at t (n + 1))
 
 abbrev pub one_back : Option ℕ → Stop → Stop
@@ -81,6 +81,6 @@ one_back (Some n) more = record { steps = 1; cause = for.Break n }
 one_back None more = record { steps = more.steps + 1; cause = more.cause }
 
 -- a run back from after so many steps: it undoes the last of them that hits a breakpoint, and all after that; or all of them
-abbrev pub ran_back : List (Option Break) → Trail → ℕ → Stop
+abbrev pub ran_back : List (Option Breakpoint) → Trail → ℕ → Stop
 ran_back places t zero = record { steps = 0; cause = for.Start }
 ran_back places t (suc n) = one_back (hit_at places t n) (ran_back places t n)

@@ -12,8 +12,8 @@ use Rattle.mpd_model.specs.declared.decision.Decision.TheVariants.{Forced, Choic
 use Rattle.mpd_model.specs.declared.breakpoint.Condition.{Condition}
 use Rattle.mpd_model.specs.declared.comparison.Comparison.{Comparison}
 use Rattle.mpd_model.specs.declared.comparison.Comparison.TheVariants.{Equal, NotEqual, Less, AtMost, Greater, AtLeast}
-use Rattle.mpd_model.specs.declared.breakpoint.Break.{Break}
-use Rattle.mpd_model.specs.declared.breakpoint.Break.TheVariants as on
+use Rattle.mpd_model.specs.declared.breakpoint.Breakpoint.{Breakpoint}
+use Rattle.mpd_model.specs.declared.breakpoint.Breakpoint.TheVariants as on
 use Rattle.mpd_model.specs.declared.breakpoint.Cause.TheVariants as for
 use Rattle.mpd_model.specs.declared.breakpoint.Stop.{Stop}
 use Rattle.mpd_model.specs.script.Declaration.{Declared}
@@ -99,7 +99,7 @@ row_meeting = refl
 
 -- ---- what is is_hit
 
-abbrev hits : Program → Break → List Step → Step → Option Bool
+abbrev hits : Program → Breakpoint → List Step → Step → Option Bool
 hits s b steps a = option_and_then (λ w. option_map (is_hit s b w a) (next w a)) (after s steps)
 
 -- x = 9; if rank == 0 { send 7 to 1 tag 3; } else { recv x from any tag any status x x; }
@@ -116,7 +116,7 @@ abbrev paired : Step
 paired = Match (call_id 0 0) (call_id 1 0)
 
 -- a rank that comes to a line, also where it was there before; one that blocks comes to none; no match comes to a line
-pub row_lines : map {B = Option Bool} (λ (r : Break × List Step × Step). hits telling r.0 r.1 r.2)
+pub row_lines : map {B = Option Bool} (λ (r : Breakpoint × List Step × Step). hits telling r.0 r.1 r.2)
     ((on.Line 3 None None, [], Local 0) ∷ (on.Line 2 None None, [], Local 0) ∷ (on.Line 3 None None, Local 0 ∷ [], Local 0) ∷ (on.Line 3 None None, Local 0 ∷ Local 0 ∷ [], Local 0) ∷ (on.Line 4 None None, Local 1 ∷ [], Local 1) ∷ (on.Line 3 None None, both_there, paired) ∷ [])
     ≡ Some true ∷ Some false ∷ Some true ∷ Some false ∷ Some true ∷ Some false ∷ []
 row_lines = refl
@@ -130,7 +130,7 @@ pub row_matches : map {B = Option Bool} (λ b. hits telling b both_there paired)
 row_matches = refl
 
 -- a line of one rank, and a match of a call that one rank has issued
-pub row_of_one : map {B = Option Bool} (λ (r : Break × List Step × Step). hits telling r.0 r.1 r.2)
+pub row_of_one : map {B = Option Bool} (λ (r : Breakpoint × List Step × Step). hits telling r.0 r.1 r.2)
     ((on.Line 3 (Some 0) None, [], Local 0) ∷ (on.Line 3 (Some 1) None, [], Local 0) ∷ (on.Line 3 (Some 1) None, [], Local 1) ∷ (on.Match 3 (Some 0), both_there, paired) ∷ (on.Match 3 (Some 1), both_there, paired)
     ∷ (on.Match 4 (Some 1), both_there, paired) ∷ (on.Match 4 (Some 0), both_there, paired) ∷ [])
     ≡ Some true ∷ Some false ∷ Some true ∷ Some true ∷ Some false ∷ Some true ∷ Some false ∷ []
@@ -141,7 +141,7 @@ pub row_released_of_one : map {B = Option Bool} (λ b. hits meeting b (Local 0 �
 row_released_of_one = refl
 
 -- x is 9 as a rank comes to line 3; there is no second cell
-abbrev at_three : ℕ → Comparison → ℤ → Break
+abbrev at_three : ℕ → Comparison → ℤ → Breakpoint
 at_three c comparison value = on.Line 3 None (Some (record { cell = c; comparison = comparison; value = value }))
 
 pub row_conditions : map {B = Option Bool} (λ b. hits telling b [] (Local 1))
@@ -151,13 +151,13 @@ pub row_conditions : map {B = Option Bool} (λ b. hits telling b [] (Local 1))
 row_conditions = refl
 
 -- a rank is hit by its own step after which it isn't blocked, and by no match
-pub row_ranks : map {B = Option Bool} (λ (r : Break × List Step × Step). hits telling r.0 r.1 r.2)
+pub row_ranks : map {B = Option Bool} (λ (r : Breakpoint × List Step × Step). hits telling r.0 r.1 r.2)
     ((on.Rank 0, [], Local 0) ∷ (on.Rank 1, [], Local 0) ∷ (on.Rank 0, Local 0 ∷ Local 0 ∷ [], Local 0) ∷ (on.Rank 0, both_there, paired) ∷ (on.Rank 0, both_there ++ paired ∷ [], Wake 0) ∷ (on.Rank 1, both_there ++ paired ∷ [], Wake 0) ∷ [])
     ≡ Some true ∷ Some false ∷ Some false ∷ Some false ∷ Some true ∷ Some false ∷ []
 row_ranks = refl
 
 -- a cell that holds another value than before: 0 and then 9, and 9 and then the tag, 3
-pub row_changes : map {B = Option Bool} (λ (r : Break × List Step × Step). hits telling r.0 r.1 r.2)
+pub row_changes : map {B = Option Bool} (λ (r : Breakpoint × List Step × Step). hits telling r.0 r.1 r.2)
     ((on.Change 1 0, [], Local 1) ∷ (on.Change 1 0, [], Local 0) ∷ (on.Change 0 0, [], Local 1) ∷ (on.Change 1 0, both_there ++ paired ∷ [], Wake 1) ∷ (on.Change 1 0, both_there ++ paired ∷ [], Wake 0) ∷ (on.Change 1 1, [], Local 1) ∷ (on.Change 2 0, [], Local 1) ∷ [])
     ≡ Some true ∷ Some false ∷ Some false ∷ Some true ∷ Some false ∷ Some false ∷ Some false ∷ []
 row_changes = refl
@@ -176,7 +176,7 @@ abbrev taken_second : Step
 taken_second = Match (call_id 1 0) (call_id 0 1)
 
 -- a handle that holds a call where it held none, or another, or none any more; no match changes one, and one that isn't there holds none
-pub row_handles : map {B = Option Bool} (λ (r : Break × List Step × Step). hits holding r.0 r.1 r.2)
+pub row_handles : map {B = Option Bool} (λ (r : Breakpoint × List Step × Step). hits holding r.0 r.1 r.2)
     ((on.Handle 0 0, [], Local 0) ∷ (on.Handle 0 0, Local 0 ∷ [], Local 0) ∷ (on.Handle 0 0, Local 0 ∷ Local 0 ∷ [], Local 0) ∷ (on.Handle 0 0, Local 0 ∷ Local 0 ∷ Local 0 ∷ [], Local 0)
     ∷ (on.Handle 0 0, waited, taken_second) ∷ (on.Handle 0 0, waited ++ taken_second ∷ [], Wake 0) ∷ (on.Handle 1 0, Local 0 ∷ [], Local 0) ∷ (on.Handle 0 1, Local 0 ∷ [], Local 0)
     ∷ (on.Handle 2 0, Local 0 ∷ [], Local 0) ∷ (on.Change 0 0, Local 0 ∷ [], Local 0) ∷ [])
@@ -192,13 +192,13 @@ row_places = refl
 
 -- ---- runs
 
-abbrev watching : List (Option Break)
+abbrev watching : List (Option Breakpoint)
 watching = slice_set no_breaks 0 (Some (on.Change 1 0))
 
-abbrev runs : List (Option Break) → ℕ → List Step → Option Ran
+abbrev runs : List (Option Breakpoint) → ℕ → List Step → Option Ran
 runs places max steps = option_map (ran telling places max (length steps)) (after telling steps)
 
-pub row_runs : map {B = Option Ran} (λ (r : List (Option Break) × ℕ × List Step). runs r.0 r.1 r.2)
+pub row_runs : map {B = Option Ran} (λ (r : List (Option Breakpoint) × ℕ × List Step). runs r.0 r.1 r.2)
     ((watching, 10, []) ∷ (watching, 4, []) ∷ (watching, 3, []) ∷ (watching, 0, []) ∷ (watching, 10, Local 0 ∷ Local 0 ∷ Local 0 ∷ Local 1 ∷ []) ∷ (watching, 0, both_there)
     ∷ (watching, 10, both_there ++ paired ∷ []) ∷ (no_breaks, 10, both_there ++ paired ∷ []) ∷ (no_breaks, 2, both_there ++ paired ∷ []) ∷ [])
     ≡ Some (record { steps = Local 0 ∷ Local 0 ∷ Local 0 ∷ Local 1 ∷ []; cause = for.Break 0 }) ∷ Some (record { steps = Local 0 ∷ Local 0 ∷ Local 0 ∷ Local 1 ∷ []; cause = for.Break 0 })

@@ -1,5 +1,5 @@
 use Rattle.std.proofs.Common.{ℕ, List, ◌++◌, ◌∙◌, refl, ap, map, string_bytes, Option}
-use Rattle.mpd_model.specs.declared.breakpoint.Break.{Break}
+use Rattle.mpd_model.specs.declared.breakpoint.Breakpoint.{Breakpoint}
 use Rattle.mpd_model.specs.runs.Breakpoints.{break_at}
 use Rattle.mpd_core.proofs.RangeLemmas.{given_more}
 use Rattle.mpd_session.specs.declared.reply.Answer.TheVariants as answer
@@ -14,7 +14,7 @@ loop-number-init c = rw c.new-items.ensures.items refl
 pub loop-number-preserved : goal.loop-number-preserved
 loop-number-preserved c =
     given_more (λ n. place_texts n (break_at c.args.breaks.now n)) c.loop-number.number 64 (map string_bytes c.loop-number.items.items) _ _ c.loop-number-test.true c.loop-number.invariant
-    (c.in_ok-push_place.ensures ∙ ap (λ (o : Option Break). map string_bytes c.loop-number.items.items ++ place_texts c.loop-number.number o) c.get.ensures)
+    (c.in_ok-push_place.ensures ∙ ap (λ (o : Option Breakpoint). map string_bytes c.loop-number.items.items ++ place_texts c.loop-number.number o) c.get.ensures)
 
 pub returns : goal.returns
 returns c =

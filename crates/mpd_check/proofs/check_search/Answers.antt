@@ -1,5 +1,5 @@
 use Rattle.mpd_check.proofs.CheckLemmas.{put_answered}
-use Rattle.mpd_check.proofs.check.Goals as goal
+use Rattle.mpd_check.proofs.check_search.Goals as goal
 
 pub returns-in-Ok : goal.returns-in-Ok
 returns-in-Ok g c =
