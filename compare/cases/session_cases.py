@@ -11,7 +11,7 @@ from cases.slots_cases import script_of as script_of_sends
 from cases.walks import random_step, respaced, step_line
 from model import debugger, explorer, policy
 from model.canonical import canonical
-from model.debugger import RENDEZVOUS, Debugger, enabled_steps, lines_of, parted
+from model.debugger import RENDEZVOUS, Debugger, enabled_steps, find_call, lines_of, parted
 from model.language import Fault, read_script
 from model.modes import MODES, by_turns, slots_of
 from model.policy import COMPARISONS, Choice, Forced
@@ -232,10 +232,23 @@ class Talk:
     def call_lines(self):
         return {'cmd': 'lines', 'rank': self.rank()}
 
+    def usual(self):
+        """The fields of a request as these habits have them."""
+        shares = self.habits.commands
+        return getattr(self, self.random.choices(list(shares), list(shares.values()))[0])()
+
+    def past_one(self):
+        """At a choice of one match a breakpoint at the line of its receive; once that is set, a run past it. Elsewhere None."""
+        decided = policy.decision(self.walked.world)
+        if not isinstance(decided, Choice) or len(decided.steps) > 1 or decided.steps[0].kind != 'match':
+            return None
+        line = int(find_call(self.walked.world, decided.steps[0].second).line)
+        is_set = any(isinstance(it, policy.MatchBreak) and it.line == line for it in self.session.breaks.places)
+        return {'cmd': 'run-on', 'max': 100} if is_set else {'cmd': 'break', 'kind': 'match', 'line': line}
+
     def fields(self):
         """The fields of the next request, in any order."""
-        shares = self.habits.commands
-        found = getattr(self, self.random.choices(list(shares), list(shares.values()))[0])()
+        found = (self.past_one() if self.session.wide and self.chance(0.3) else None) or self.usual()
         if self.chance(self.habits.at):
             now = self.session.version
             found['at'] = now if self.chance(0.6) else near(self.random, max(0, now + self.random.choice([-1, 1, -2])))

@@ -317,11 +317,11 @@ def checks():
     for workers in (1, 2, 16):
         for split_by in (0, 1):
             yield Row('mpd_pool::check_watched', RACE, (), f'{workers} {split_by} 10 100 witnesses')
-        yield Row('mpd_check::check', RACE, (), f'{workers} 1 10 100 witnesses')
+        yield Row('mpd_check::check_search', RACE, (), f'{workers} 1 10 100 witnesses')
     yield Row('mpd_pool::check_watched', RACE, CHOICE, '2 1 10 100')
     for workers in (0, 17):
         yield Row('mpd_pool::check_watched', RACE, (), f'{workers} 1 10 100', spares=True)
-        yield Row('mpd_check::check', RACE, (), f'{workers} 1 10 100', spares=True)
+        yield Row('mpd_check::check_search', RACE, (), f'{workers} 1 10 100', spares=True)
     for piece in (0, 1, 2):
         yield Row('check_piece', RACE, (), f'{piece} 1 10 100 witnesses')
     yield Row('count_pieces', RACE, (), '0 1 10 100')
@@ -344,13 +344,13 @@ def checks_of_ends():
             yield Row('explore_at', script, (), f'{choices} 10 100 ends witnesses', mode)
         for workers in (1, 2):
             yield Row('mpd_pool::check_watched', script, (), f'{workers} 1 10 100 ends witnesses', mode)
-            yield Row('mpd_check::check', script, (), f'{workers} 1 10 100 ends witnesses', mode)
+            yield Row('mpd_check::check_search', script, (), f'{workers} 1 10 100 ends witnesses', mode)
         for piece in (0, 1, 2):
             yield Row('check_piece', script, (), f'{piece} 1 10 100 ends witnesses', mode)
         yield Row('count_pieces', script, (), '0 1 10 100 ends', mode)
         yield Row('check_mode', script, (), '2 1 10 100 ends', mode)
         # a report of the runs along decisions, in which there is one piece, doesn't tell all
-        yield Row('mpd_check::check', script, (), '1 1 10 100', mode)
+        yield Row('mpd_check::check_search', script, (), '1 1 10 100', mode)
     # a piece that begins where something is asleep: its last choice is taken after another that shares no call with it was tried
     yield Row('split', TWO_RACES, (), '2 200 ends', most=40)
     for choices in ('0,0', '1,0', '1,1', '2,0', '2,1'):

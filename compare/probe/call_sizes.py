@@ -115,7 +115,7 @@ def reports():
     for workers in (1, 2, 16):
         yield Row('mpd_pool::print_report', SEVEN, (), f'{workers} 6000 1000', by_hand=all_orders(), most=20, what=f'5,040 leaves by {workers} workers')
         yield Row('mpd_pool::check_watched', SIX, (), f'{workers} 2 200 1000', most=20, what=f'120 leaves by {workers} workers')
-        yield Row('mpd_check::check', SIX, (), f'{workers} 2 200 1000 witnesses', most=20, what=f'120 leaves by {workers} workers')
+        yield Row('mpd_check::check_search', SIX, (), f'{workers} 2 200 1000 witnesses', most=20, what=f'120 leaves by {workers} workers')
 
 
 def sessions():

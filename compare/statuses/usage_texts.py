@@ -577,7 +577,7 @@ MISTAKES = (
     hyphened('debug|a|--witness|-1', '-1', OF_DEBUG),
     hyphened('debug|a|--choices|-1', '-1', OF_DEBUG),
     hyphened('debug|a|-c|0', '-c', OF_DEBUG),
-    hyphened('run|a|--witness', '--witness', 'mpdbg run <FILE>'),
+    unknown('run|a|--witness', '--witness', 'mpdbg run --wide <FILE>', "a similar argument exists: '--wide'"),
     hyphened('run|a|--port|1', '--port', 'mpdbg run <FILE>'),
     hyphened('run|a|-m', '-m', OF_RUN),
     unknown('serve|a|--prot|4000|--clients|2', '--prot', WANTED_OF_SERVE, "a similar argument exists: '--port'"),
