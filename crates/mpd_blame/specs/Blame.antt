@@ -12,6 +12,7 @@ use Rattle.mpd_policy.specs.Wide.{wide_decision}
 use Rattle.mpd_policy.specs.Walk.{Run, run_by}
 use Rattle.mpd_explore.specs.declared.report.SearchLeaf.{SearchLeaf}
 use Rattle.mpd_outcomes.specs.declared.report.Goal.TheVariants as goal_is
+use Rattle.mpd_outcomes.specs.declared.report.StateLimits.{StateLimits}
 use Rattle.mpd_outcomes.specs.Goals.{meets, states_along}
 use Rattle.mpd_outcomes.specs.Outcomes.{leaves_from}
 use Rattle.mpd_blame.specs.declared.sight.Sight.{Sight}
@@ -122,6 +123,14 @@ abbrev pub IsOnly : Decision → Step → Type 0
 IsOnly (Forced b) a = b ≡ a
 IsOnly (Choice candidates) a = candidates ≡ a ∷ []
 IsOnly (Ends o) a = ⊥
+
+-- What is left of the limits once the runs from a state were looked at: what there was where this step alone can come next, since then nothing
+-- is looked at; else less by as many states as were come to, of which there is one at least where any may be.
+abbrev pub Spends : StateLimits → ℕ → World → Option Step → StateLimits → Type 0
+Spends old fuel w None new = ⊥
+Spends old fuel w (Some a) new =
+    (IsOnly (wide_decision w) a × (new ≡ old))
+    ⊎ ((IsOnly (wide_decision w) a → ⊥) × ((n : ℕ) × (0 < old.visited → 0 < n) × (n ≤ states_along (leaves_from fuel w)) × (new ≡ record old { visited = old.visited - n })))
 
 -- what is told of a step that was taken after so many, where it isn't doomed before it
 abbrev pub tells : ℕ → Step → Sight → Option Blame

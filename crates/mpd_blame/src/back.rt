@@ -1,6 +1,6 @@
 //! The last step of a run before which some run still ends well, found by going back along the run.
 
-ghost use Rattle.std.specs.Prelude.{◌≡◌, ◌+◌, ◌-◌, ◌<◌, ◌≤◌, true, IfOk, OnOk, OnErr, Some, None, length, slice_get};
+ghost use Rattle.std.specs.Prelude.{◌≡◌, ◌↔◌, ◌+◌, ◌-◌, ◌<◌, ◌≤◌, true, IfOk, OnOk, OnErr, Some, None, length, slice_get};
 ghost use Rattle.mpd_model.specs.steps.World.{start};
 ghost use Rattle.mpd_model.specs.steps.Next.{next};
 ghost use Rattle.mpd_model.specs.runs.Trail.{forgotten, gone_back, step_eq, IsReached};
@@ -9,7 +9,7 @@ ghost use Rattle.mpd_policy.specs.Wide.{wide_decision};
 ghost use Rattle.mpd_outcomes.specs.Goals.{states_along};
 ghost use Rattle.mpd_outcomes.specs.Outcomes.{leaves_from};
 ghost use Rattle.mpd_blame.specs.declared.sight.Sight.TheVariants as sight_is;
-ghost use Rattle.mpd_blame.specs.Blame.{is_doomed, tells, IsBack, IsBlame, IsOnly, IsThere, Turned};
+ghost use Rattle.mpd_blame.specs.Blame.{is_doomed, tells, IsBack, IsBlame, IsOnly, IsThere, Spends, Turned};
 
 use crate::sight::{Looked, Sight, look};
 use mpd_meaning::steps::{every_step_that_leads_on_is_listed, reached_worlds_have_calls};
@@ -57,7 +57,7 @@ fn is_same(one: Step, other: Step) -> bool
 
 /// Whether this step is all that can come next along the wide walk.
 fn is_only(alloc: Global, debugger: &Debugger<'_>, step: Step) -> Result<bool, AllocError>
-    ensures { IfOk result (λ b. b ≡ true → IsOnly (wide_decision debugger.now.world) step) }
+    ensures { IfOk result (λ b. b ≡ true ↔ IsOnly (wide_decision debugger.now.world) step) }
 {
     match wide_decide(alloc, debugger.core())? {
         Decision::Leaf(outcome) => {
@@ -121,8 +121,7 @@ fn told(depth: usize, taken: Step, sight: Sight) -> Option<Blame>
 
 /// The limits of a search after `visited` states.
 fn limits_after(limits: StateLimits, visited: usize) -> StateLimits
-    ensures fuel { result.fuel ≡ limits.fuel }
-    ensures visited { result.visited ≡ limits.visited - visited }
+    ensures { result ≡ record limits { visited = limits.visited - visited } }
 {
     StateLimits {
         visited: limits.visited.saturating_sub(visited),
@@ -144,6 +143,7 @@ fn turn(
     requires doomed { is_doomed (limits.old.fuel - debugger.old.trail.depth) debugger.old.world ≡ true }
     ensures turned { IfOk result (λ o. Turned limits.old.visited limits.old.fuel (standing_of debugger.old) o (standing_of debugger.new)) }
     ensures spent { OnOk result (limits.old.visited ≤ limits.new.visited + states_along (leaves_from (limits.old.fuel - debugger.new.trail.depth) debugger.new.world)) }
+    ensures budget { IfOk result (λ o. Spends limits.old (limits.old.fuel - debugger.new.trail.depth) debugger.new.world (slice_get debugger.old.trail.steps debugger.new.trail.depth) limits.new) }
     ensures fuel { limits.new.fuel ≡ limits.old.fuel }
     ensures trail { debugger.new.trail ≡ forgotten (gone_back debugger.old.trail (debugger.old.trail.depth - 1)) }
     ensures reached { IsReached (standing_of debugger.new) }

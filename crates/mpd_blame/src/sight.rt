@@ -139,9 +139,7 @@ fn sight_of(
 /// How the runs from a depth are looked at: up to the first that ends well.
 fn limits_at(limits: StateLimits, depth: usize) -> StateLimits
     requires { depth ≤ limits.fuel }
-    ensures fuel { result.fuel ≡ limits.fuel - depth }
-    ensures visited { result.visited ≡ limits.visited }
-    ensures until { result.until ≡ Some goal_is.Well }
+    ensures { result ≡ record { fuel = limits.fuel - depth; kept = limits.kept; visited = limits.visited; witnesses = Witnesses.OfNone; until = Some goal_is.Well } }
 {
     StateLimits {
         fuel: limits.fuel - depth,
@@ -165,6 +163,7 @@ pub(crate) fn look(
     requires few { limits.fuel ≤ STEPS_MAX }
     ensures sees { IfOk result (λ l. Sees limits.visited (limits.fuel - debugger.old.trail.depth) debugger.old.world l.sight) }
     ensures few { IfOk result (λ l. l.visited ≤ states_along (leaves_from (limits.fuel - debugger.old.trail.depth) debugger.old.world)) }
+    ensures some { IfOk result (λ l. 0 < limits.visited → 0 < l.visited) }
     ensures none { IfOk result (λ l. limits.visited ≡ 0 → l.sight ≡ sight_is.Unknown) }
     ensures memory { OnErr result (0 < limits.visited) }
     ensures as_found { AsFound (standing_of debugger.old) (standing_of debugger.new) }

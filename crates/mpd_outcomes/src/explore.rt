@@ -146,6 +146,7 @@ fn find_in(
     ensures stops { IfOk result (λ o. StopsAt limits.until o.firsts.leaves.items) }
     ensures last { (root : World) → BeforeIn (search_of bounds debugger.old.trail root) front.old (standing_of debugger.old) → IfOk result (λ o. StopsRuns limits.until (bounds.limit - bounds.base) root o) }
     ensures limit { IfOk result (λ o. StopsFor limits o.firsts.more o.visited o.firsts.leaves.items) }
+    ensures some { IfOk result (λ o. 0 < limits.visited → 0 < o.visited) }
     ensures none { IfOk result (λ o. limits.visited ≡ 0 → (o.firsts.leaves.items ≡ front.old.ways.items) × (o.firsts.more ≡ true)) }
     ensures memory { OnErr result (0 < limits.visited + length front.old.stack.items + length front.old.ways.items) }
     ensures safe { Safe bounds.base (standing_of debugger.old) (standing_of debugger.new) }
@@ -171,6 +172,7 @@ fn find(
     ensures stops { IfOk result (λ o. StopsAt limits.until o.firsts.leaves.items) }
     ensures last { IfOk result (λ o. StopsRuns limits.until (bounds.limit - bounds.base) debugger.old.world o) }
     ensures limit { IfOk result (λ o. StopsFor limits o.firsts.more o.visited o.firsts.leaves.items) }
+    ensures some { IfOk result (λ o. 0 < limits.visited → 0 < o.visited) }
     ensures none { IfOk result (λ o. limits.visited ≡ 0 → (o.firsts.leaves.items ≡ []) × (o.firsts.more ≡ true)) }
     ensures memory { OnErr result (0 < limits.visited) }
     ensures safe { Safe bounds.base (standing_of debugger.old) (standing_of debugger.new) }
@@ -262,6 +264,7 @@ fn found_from(
     ensures stops { IfOk result (λ o. StopsAt limits.until o.firsts.leaves.items) }
     ensures last { IfOk result (λ o. StopsRuns limits.until limits.fuel debugger.old.world o) }
     ensures limit { IfOk result (λ o. StopsFor limits o.firsts.more o.visited o.firsts.leaves.items) }
+    ensures some { IfOk result (λ o. 0 < limits.visited → 0 < o.visited) }
     ensures none { IfOk result (λ o. limits.visited ≡ 0 → (o.firsts.leaves.items ≡ []) × (o.firsts.more ≡ true)) }
     ensures memory { OnErr result (0 < limits.visited) }
     ensures as_found { AsFound (standing_of debugger.old) (standing_of debugger.new) }
@@ -299,6 +302,7 @@ pub fn explore_outcomes(
     ensures stops { IfOk result (λ o. StopsAt limits.until o.firsts.leaves.items) }
     ensures last { IfOk result (λ o. StopsRuns limits.until limits.fuel debugger.old.world o) }
     ensures limit { IfOk result (λ o. StopsFor limits o.firsts.more o.visited o.firsts.leaves.items) }
+    ensures some { IfOk result (λ o. 0 < limits.visited → 0 < o.visited) }
     ensures none { IfOk result (λ o. limits.visited ≡ 0 → (o.firsts.leaves.items ≡ []) × (o.firsts.more ≡ true)) }
     ensures memory { OnErr result (0 < limits.visited) }
     ensures as_found { AsFound (standing_of debugger.old) (standing_of debugger.new) }

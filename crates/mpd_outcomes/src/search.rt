@@ -457,6 +457,7 @@ pub(crate) fn search(
     ensures stops { OnOk result (StopsAt limits.until front.new.ways.items) }
     ensures limit { IfOk result (λ r. StopsFor limits r.more r.visited front.new.ways.items) }
     ensures none { IfOk result (λ r. limits.visited ≡ 0 → (front.new ≡ front.old) × (r.more ≡ true)) }
+    ensures some { IfOk result (λ r. 0 < limits.visited → 0 < r.visited) }
     ensures memory { OnErr result (0 < limits.visited) }
     ensures safe { Safe bounds.base (standing_of debugger.old) (standing_of debugger.new) }
 {

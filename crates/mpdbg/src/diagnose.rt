@@ -1,6 +1,6 @@
 //! `mpdbg diagnose`: whether the runs of a script can hang or trap, how, and where that was decided (docs/FORMATS.md, "Diagnosis").
 
-ghost use Rattle.std.specs.Prelude.{◌≡◌, ◌≤◌, Some};
+ghost use Rattle.std.specs.Prelude.{◌≡◌, ◌≤◌, Some, None};
 ghost use Rattle.mpd_trace.specs.Ranks.{AreRanks};
 ghost use Rattle.mpd_trace.specs.Spans.{IsSpan};
 
@@ -35,7 +35,9 @@ pub(crate) struct ToldScript<'s> {
 
 /// How a script is diagnosed: by limits that nobody has to know.
 fn plan_of(script: ToldScript<'_>) -> DiagnosisPlan<'_>
-    ensures { result.limits.fuel ≡ FUEL }
+    ensures limits { result.limits ≡ record { fuel = FUEL; kept = STATES_KEPT; visited = VISITED_MAX; witnesses = Witnesses.OfNone; until = None } }
+    ensures blamed { result.blamed ≡ STATES_VISITED }
+    ensures drawn { result.drawn ≡ DRAWN }
 {
     DiagnosisPlan {
         limits: StateLimits {

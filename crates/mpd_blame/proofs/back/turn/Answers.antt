@@ -1,6 +1,7 @@
 use Rattle.std.proofs.Common.{◌≡◌, ◌≤◌, ◌+◌, ◌-◌, suc, true, sym, Some, None, refl, ap, subst, ◌∙◌, slice_get, arith}
 use Rattle.mpd_model.specs.runs.Trail.{Trail, Standing, done_steps}
 use Rattle.mpd_outcomes.specs.Goals.{states_along}
+use Rattle.mpd_outcomes.specs.declared.report.StateLimits.{StateLimits}
 use Rattle.mpd_outcomes.specs.Outcomes.{leaves_from}
 use Rattle.mpd_trail.specs.DebuggerViews.{standing_of}
 use Rattle.mpd_policy.specs.Wide.{wide_decision}
@@ -19,7 +20,7 @@ returns-then-branch-clause-turned c =
     let some = c.requires.some in
     let within = c.requires.within in
     let more : suc n ≡ c.args.limits.now.fuel - e.trail.depth = omega (arith, deep, some, within) in
-    subst (λ m. is_doomed m e.world ≡ true) more (only_doomed n e.world d.world c.step_back-taken.result (wide_decision e.world) refl (c.in_ok-is_only.ensures c.if-branch.true) c.step_back-taken.ensures.leads c.requires.doomed)
+    subst (λ m. is_doomed m e.world ≡ true) more (only_doomed n e.world d.world c.step_back-taken.result (wide_decision e.world) refl (c.in_ok-is_only.ensures.0 c.if-branch.true) c.step_back-taken.ensures.leads c.requires.doomed)
 
 pub told-requires : goal.told-requires
 told-requires c = λ is.
@@ -55,6 +56,6 @@ pub returns-clause-spent : goal.returns-clause-spent
 returns-clause-spent c =
     let e = standing_of c.step_back-taken.new.debugger in
     let few = c.in_ok-sight.ensures.few in
-    let left = c.limits_after.ensures.visited in
+    let left = ap (λ (l : StateLimits). l.visited) c.limits_after.ensures in
     subst (λ (s : Standing). c.args.limits.now.visited ≤ c.limits_after.result.visited + states_along (leaves_from (c.args.limits.now.fuel - s.trail.depth) s.world))
     (λ i. record { trail = sym c.look.ensures.as_found.trail i; world = sym c.look.ensures.as_found.world i }) (omega (arith, few, left))

@@ -1,6 +1,7 @@
 use Rattle.std.proofs.Common.{◌≡◌, Option, ◌≤◌, ◌+◌, ◌-◌, suc, true, length, sym, ap, subst, ◌∙◌, arith}
 use Rattle.mpd_model.specs.runs.Trail.{Trail}
 use Rattle.mpd_trail.specs.DebuggerViews.{standing_of}
+use Rattle.mpd_outcomes.specs.declared.report.StateLimits.{StateLimits}
 use Rattle.mpd_outcomes.specs.Outcomes.{leaves_from}
 use Rattle.mpd_outcomes.specs.Goals.{states_along}
 use Rattle.mpd_blame.specs.declared.back.Blame.{Blame}
@@ -12,7 +13,7 @@ pub loop-undone-init : goal.loop-undone-init
 loop-undone-init c =
     let d = standing_of c.args.debugger.now in
     let reached = c.state_is_reached.ensures.reached in
-    record { back = back_same d reached c.requires.clean; depth = omega arith; doomed = doomed_end c.args.limits.fuel d reached c.requires.clean c.requires.doomed; fuel = c.limits_after-limits.ensures.fuel; spent = subst (λ n. c.args.limits.visited ≤ n + states_on c.args.limits.fuel (start_of d) d.trail.steps d.trail.depth (suc (length d.trail.steps - d.trail.depth))) (sym c.limits_after-limits.ensures.visited) (spent_end c.args.limits.fuel c.args.visited c.args.limits.visited d reached c.requires.come) }
+    record { back = back_same d reached c.requires.clean; depth = omega arith; doomed = doomed_end c.args.limits.fuel d reached c.requires.clean c.requires.doomed; fuel = ap (λ (l : StateLimits). l.fuel) c.limits_after-limits.ensures; spent = subst (λ n. c.args.limits.visited ≤ n + states_on c.args.limits.fuel (start_of d) d.trail.steps d.trail.depth (suc (length d.trail.steps - d.trail.depth))) (sym (ap (λ (l : StateLimits). l.visited) c.limits_after-limits.ensures)) (spent_end c.args.limits.fuel c.args.visited c.args.limits.visited d reached c.requires.come) }
 
 pub turn-requires-clause-clean : goal.turn-requires-clause-clean
 turn-requires-clause-clean c = back_clean (standing_of c.args.debugger.now) (standing_of c.loop-undone.debugger) c.state_is_reached.ensures.reached c.loop-undone.invariant.back

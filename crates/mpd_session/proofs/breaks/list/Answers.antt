@@ -14,7 +14,7 @@ loop-number-init c = rw c.new-items.ensures.items refl
 pub loop-number-preserved : goal.loop-number-preserved
 loop-number-preserved c =
     given_more (λ n. place_texts n (break_at c.args.breaks.now n)) c.loop-number.number 64 (map string_bytes c.loop-number.items.items) _ _ c.loop-number-test.true c.loop-number.invariant
-    (c.in_ok-push_place.ensures ∙ ap (λ (o : Option Breakpoint). map string_bytes c.loop-number.items.items ++ place_texts c.loop-number.number o) c.get.ensures)
+    (c.in_ok-push_place.ensures ∙ ap (λ (o : Option Breakpoint). map string_bytes c.loop-number.items.items ++ place_texts c.loop-number.number o) c.breakpoint.ensures)
 
 pub returns : goal.returns
 returns c =

@@ -18,7 +18,7 @@ returns-then-is_changed c =
     let values = c.args.values.now in
     number_now (λ n. changed_by (get_or values n Nothing) (break_at c.args.self.now n) core.world) c.loop-number.number BREAKS_MAX _
     (omega (arith, c.loop-number-test.true, c.bound-count.ensures.within)) c.loop-number.invariant
-    (ap (λ place. changed_by (get_or values c.loop-number.number Nothing) place core.world) (sym c.get.ensures) ∙ sym c.is_changed.ensures ∙ c.if-is_changed.true)
+    (ap (λ place. changed_by (get_or values c.loop-number.number Nothing) place core.world) (sym c.breakpoint.ensures) ∙ sym c.is_changed.ensures ∙ c.if-is_changed.true)
 
 pub returns : goal.returns
 returns c =

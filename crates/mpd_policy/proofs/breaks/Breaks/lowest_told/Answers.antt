@@ -15,7 +15,7 @@ returns-then-is_told c =
     let core = c.args.core.now in
     number_now (λ n. told_by core.program (break_at c.args.self.now n) c.args.step core.world) c.loop-number.number BREAKS_MAX _
     (omega (arith, c.loop-number-test.true, c.bound-count.ensures.within)) c.loop-number.invariant
-    (ap (λ place. told_by core.program place c.args.step core.world) (sym c.get.ensures) ∙ sym c.is_told.ensures ∙ c.if-is_told.true)
+    (ap (λ place. told_by core.program place c.args.step core.world) (sym c.breakpoint.ensures) ∙ sym c.is_told.ensures ∙ c.if-is_told.true)
 
 pub returns : goal.returns
 returns c =
