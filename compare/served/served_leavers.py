@@ -105,7 +105,7 @@ LOOKS = (
 
 def looked(tried):
     """Looks of two clients, whose replies have lists: each is an entry, a refused one too, and nothing changes."""
-    with tried.serve(SCRIPT, 2) as server:
+    with tried.serve(SCRIPT, 2, wide=True) as server:
         one, other = server.ask_for(2)
         one.must(step('local 0'), deep(1, 1))
         one.must(step('local 0'), deep(2, 2))
