@@ -295,7 +295,7 @@ def run_written(row):
 REPORTS = {
     'explore': explored, 'explore_with': explored_with, 'sample': sampled, 'witness_of': witness_made, 'print_report': report_printed,
     'push_leaf_text': leaves_pushed, 'push_leaves, push_total': report_printed, 'mpd_pool::print_report': report_by_workers,
-    'Report looks': report_looks, 'verify': verified, 'verify_end': verified, 'verify_from': verified, 'split': split, 'explore_at': part_explored,
+    'SearchReport looks': report_looks, 'verify': verified, 'verify_end': verified, 'verify_from': verified, 'split': split, 'explore_at': part_explored,
     'explore_by_pieces': by_pieces, 'mpd_pool::check_watched': by_workers, 'mpd_check::check_search': check_written, 'check_piece': piece_written,
     'count_pieces': pieces_counted, 'check_mode': mode_written, 'put_least': by_hand, 'judge': judged, 'read_witness': witness_read,
     'explain': leaf_explained, 'explain_all': all_explained, 'print_explained': explained_printed,

@@ -259,7 +259,7 @@ def reports():
         yield Row('push_leaves, push_total', script, (), '10 100 witnesses', mode)
         yield Row('mpd_pool::print_report', script, (), '2 10 100 witnesses', mode)
         yield Row('push_leaf_text', script, (), '10 100', mode)
-        yield Row('Report looks', script, (), '10 100', mode, spares=True)
+        yield Row('SearchReport looks', script, (), '10 100', mode, spares=True)
     yield Row('explore', RACE, (*CHOICE, 'match 1.0 0.0'), '10 100 witnesses')
     yield Row('explore', RACE, (*CHOICE, 'match 1.0 0.0'), '10 100 witnesses ends')
     # two races of two senders: 8 runs along the choices, of which 4 end in another way than those before
@@ -295,7 +295,7 @@ def reports_of_ends():
         yield Row('explore', script, (), '10 100 ends witnesses', mode)
         yield Row('sample', script, (), '10 100 3 witnesses', mode)
         yield Row('print_report', script, (), '10 100 ends witnesses', mode)
-        yield Row('Report looks', script, (), '10 100 ends', mode, spares=True)
+        yield Row('SearchReport looks', script, (), '10 100 ends', mode, spares=True)
     # of the runs of the wide walk that hang, the first: the second leaf, and the first
     yield Row('witness_of', BY_THE_FIRST, (), '10 100 1 ends')
     yield Row('witness_of', BY_THE_FIRST, ONE_CAME, '10 100 1 ends')

@@ -50,7 +50,7 @@ SMALL_STACK = ('sh', '-c', 'ulimit -S -s 512 && exec "$0" "$@"')
 SESSIONS, WIDE_SESSIONS = ('serve', 'mpd_server::run'), ('serve_by', 'run_by')
 BY_LINES = ('mpd_trail::follow', 'trace', 'plain', 'plain_keeping', *SESSIONS, *WIDE_SESSIONS, *call_consoles.TALKS)
 # What threads ask for isn't the same each time, and what a worker is refused its caller does.
-BY_WORKERS = ('mpd_pool::check_watched', 'mpd_check::check', 'check_listing')
+BY_WORKERS = ('mpd_pool::check_watched', 'mpd_check::check_search', 'check_listing')
 # Of the reports that the shim writes, each run has its own.
 NUMBERS = itertools.count()
 SECTION = re.compile(r'^= (state|answer|memory|end)\n', re.M)

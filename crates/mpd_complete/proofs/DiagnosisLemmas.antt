@@ -46,7 +46,7 @@ none_here : (b : Bool) (n : ℕ) → cond b 1 0 + n ≡ 0 → (b ≡ false) × (
 none_here true n h = absurd (omega (arith, h))
 none_here false n h = (refl, omega (arith, h))
 
-none_in : (x : Way) (ls : List SearchLeaf) → count_in x ls ≡ 0 → (l : SearchLeaf) → In ls l → ends_in x l ≡ false
+pub none_in : (x : Way) (ls : List SearchLeaf) → count_in x ls ≡ 0 → (l : SearchLeaf) → In ls l → ends_in x l ≡ false
 none_in x [] none l h = absurd h
 none_in x (k ∷ ls) none l h =
     let both = none_here (ends_in x k) (count_in x ls) (sym (sum_by-cons (λ (m : SearchLeaf). cond (ends_in x m) 1 0) k ls) ∙ none) in
@@ -61,9 +61,10 @@ all_taken : (fuel : ℕ) (u : World) (runs : ℕ) (more : Bool) → more ≡ nat
 all_taken fuel u runs more is none =
     take_all runs (leaves_from fuel u) (subst (λ (n : ℕ). n ≤ runs) (sym (length-map (wide_walk fuel u) shown)) (not_less runs (length (wide_walk fuel u)) (sym is ∙ none)))
 
-pub good_tells : (script file : List ℕ) (ranks : Option ℕ) (limits : StateLimits) (most runs : ℕ) (s : Program) (mode : Mode) (told : Diagnosis) (strict : Bool) → IsDiagnosis script file ranks limits most runs (first_standing s mode) told
-    → verdict_of strict told.counts told.drawn ≡ Good → NoneEndsBadly (start s mode) × BoundsAllRuns limits.fuel (start s mode)
-good_tells script file ranks limits most runs s mode told strict h good =
+-- where the numbers of a diagnosis are of all runs, they are those of the leaves of the wide walk, of which none is cut
+pub taken_leaves : (script file : List ℕ) (ranks : Option ℕ) (limits : StateLimits) (most runs : ℕ) (s : Program) (mode : Mode) (told : Diagnosis) → IsDiagnosis script file ranks limits most runs (first_standing s mode) told
+    → sees_all told.counts ≡ true → (told.counts ≡ counts_of (leaves_from limits.fuel (start s mode)) false) × NoneIsCut (leaves_from limits.fuel (start s mode))
+taken_leaves script file ranks limits most runs s mode told h seen =
     let fuel : ℕ = limits.fuel in
     let u : World = start s mode in
     let o = h.is_first.0 in
@@ -72,20 +73,28 @@ good_tells script file ranks limits most runs s mode told strict h good =
     let ls : List SearchLeaf = take t.runs all in
     let more : Bool = o.firsts.more in
     let are : told.counts ≡ counts_of ls more = h.is_first.2.counts_are ∙ counts_are fuel u o t _ _ _ _ _ refl refl refl refl refl in
-    let both = judged (ends_well told.counts) (is_untidy strict told.counts) (is_bad_if strict told.drawn) (sees_all told.counts) good in
-    let whole = sees_whole ls more (subst (λ (c : WayCounts). sees_all c ≡ true) are both.1) in
-    let well = both_true _ _ (subst (λ (c : WayCounts). ends_well c ≡ true) are both.0) in
+    let whole = sees_whole ls more (subst (λ (c : WayCounts). sees_all c ≡ true) are seen) in
     let taken : ls ≡ all = all_taken fuel u t.runs more t.more_is whole.0 in
-    let ends : NoneIsCut all = subst NoneIsCut taken whole.1 in
-    let hangs : count_in Deadlock all ≡ 0 = ap (count_in Deadlock) (sym taken) ∙ is_none (count_in Deadlock ls) well.0 in
-    let traps : count_in Trap all ≡ 0 = ap (count_in Trap) (sym taken) ∙ is_none (count_in Trap ls) well.1 in
+    (are ∙ ap (counts_of ls) whole.0 ∙ ap (λ (leaves : List SearchLeaf). counts_of leaves false) taken, subst NoneIsCut taken whole.1)
+
+pub good_tells : (script file : List ℕ) (ranks : Option ℕ) (limits : StateLimits) (most runs : ℕ) (s : Program) (mode : Mode) (told : Diagnosis) (strict : Bool) → IsDiagnosis script file ranks limits most runs (first_standing s mode) told
+    → verdict_of strict told.counts told.drawn ≡ Good → NoneEndsBadly (start s mode) × BoundsAllRuns limits.fuel (start s mode)
+good_tells script file ranks limits most runs s mode told strict h good =
+    let fuel : ℕ = limits.fuel in
+    let u : World = start s mode in
+    let all : List SearchLeaf = leaves_from fuel u in
+    let both = judged (ends_well told.counts) (is_untidy strict told.counts) (is_bad_if strict told.drawn) (sees_all told.counts) good in
+    let t = taken_leaves script file ranks limits most runs s mode told h both.1 in
+    let well = both_true _ _ (subst (λ (c : WayCounts). ends_well c ≡ true) t.0 both.0) in
+    let hangs : count_in Deadlock all ≡ 0 = is_none (count_in Deadlock all) well.0 in
+    let traps : count_in Trap all ≡ 0 = is_none (count_in Trap all) well.1 in
     let said = complete s mode [] u refl fuel in
-    let have = have_outcomes fuel u (wide_walk fuel u) said all refl ends in (
+    let have = have_outcomes fuel u (wide_walk fuel u) said all refl t.1 in (
       (λ steps w f none.
           let x = have steps w f none in
           let way_is = ap way_of x.2 in (
             (λ bad. let no = none_in Deadlock all hangs x.0 (in_contains all x.0 x.1) in let yes = ap (same_way Deadlock) (way_is ∙ bad) in cc),
             (λ bad. let no = none_in Trap all traps x.0 (in_contains all x.0 x.1) in let yes = ap (same_way Trap) (way_is ∙ bad) in cc),
           )),
-      bound_runs fuel u (wide_walk fuel u) said all refl ends,
+      bound_runs fuel u (wide_walk fuel u) said all refl t.1,
     )

@@ -22,4 +22,5 @@ mod Fuel
 mod ToldLemmas
 mod OutcomesLemmas
 mod DiagnosisLemmas
+mod FailingLemmas
 mod PictureLemmas

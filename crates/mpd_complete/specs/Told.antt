@@ -1,5 +1,5 @@
 -- What commands say of all runs of a script, in the words of what they answer: `check`, a sample, and the console's search.
-use Rattle.std.specs.Prelude.{◌≡◌, ℕ, Bool, true, List, [], Option, Some}
+use Rattle.std.specs.Prelude.{◌≡◌, ◌-◌, ◌<◌, ◌≤◌, ◌⊎◌, ℕ, Bool, true, List, [], length, take, Option, Some}
 use Rattle.mpd_model.specs.declared.call.Mode.{Mode}
 use Rattle.mpd_model.specs.script.Program.{Program}
 use Rattle.mpd_model.specs.steps.World.{World, start}
@@ -9,12 +9,17 @@ use Rattle.mpd_model.specs.steps.Next.{fold, enabled}
 use Rattle.mpd_model.specs.steps.Outcomes.{ending}
 use Rattle.mpd_policy.specs.declared.ending.Ending.TheVariants.{Ended}
 use Rattle.mpd_lines.specs.declared.verdict.Verdict.TheVariants.{Good}
+use Rattle.mpd_runs.specs.declared.way.Way.{Way}
 use Rattle.mpd_runs.specs.declared.way.Way.TheVariants.{Deadlock, Trap}
 use Rattle.mpd_runs.specs.Ways.{way_of}
 use Rattle.mpd_outcomes.specs.declared.report.StateLimits.{StateLimits}
 use Rattle.mpd_diagnose.specs.declared.diagnosis.Diagnosis.{Diagnosis}
 use Rattle.mpd_diagnose.specs.Diagnosed.{IsDiagnosis}
+use Rattle.mpd_diagnose.specs.Told.{always_fails, always_hangs, always_traps}
 use Rattle.mpd_diagnose.specs.Verdicts.{verdict_of}
+use Rattle.mpd_blame.specs.declared.back.Decided.{Decided}
+use Rattle.mpd_blame.specs.declared.back.Blame.TheVariants.{At, FromStart}
+use Rattle.mpd_blame.specs.Blame.{IsBlame}
 use Rattle.mpd_explore.specs.declared.report.SearchLimits.{SearchLimits}
 use Rattle.mpd_pool.specs.declared.pool.SearchPlan.{SearchPlan}
 use Rattle.mpd_runs.specs.declared.search.Scope.{Scope}
@@ -57,6 +62,32 @@ abbrev pub GoodDiagnosesAreOfAllRuns : Type 0
 GoodDiagnosesAreOfAllRuns =
     (script file : List ℕ) (ranks : Option ℕ) (limits : StateLimits) (most runs : ℕ) (s : Program) (mode : Mode) (told : Diagnosis) (strict : Bool) → IsDiagnosis script file ranks limits most runs (first_standing s mode) told
     → verdict_of strict told.counts told.drawn ≡ Good → NoneEndsBadly (start s mode) × BoundsAllRuns limits.fuel (start s mode)
+
+-- every run from there that can't go on ends in this way
+abbrev pub AllEndIn : Way → World → Type 0
+AllEndIn x u = (steps : List Step) (w : World) → fold u steps ≡ Some w → enabled w ≡ [] → way_of (Ended (ending w)) ≡ x
+
+-- in a deadlock or with a trap
+abbrev pub AllEndBadly : World → Type 0
+AllEndBadly u =
+    (steps : List Step) (w : World) → fold u steps ≡ Some w → enabled w ≡ []
+    → (way_of (Ended (ending w)) ≡ Deadlock) ⊎ (way_of (Ended (ending w)) ≡ Trap)
+
+-- Where the numbers of a diagnosis say that every run hangs or traps, it does, and where they say which of both.
+abbrev pub FailingDiagnosesAreOfAllRuns : Type 0
+FailingDiagnosesAreOfAllRuns =
+    (script file : List ℕ) (ranks : Option ℕ) (limits : StateLimits) (most runs : ℕ) (s : Program) (mode : Mode) (told : Diagnosis)
+    → IsDiagnosis script file ranks limits most runs (first_standing s mode) told → always_fails told.counts ≡ true
+    → AllEndBadly (start s mode) × BoundsAllRuns limits.fuel (start s mode)
+    × (always_hangs told.counts ≡ true → AllEndIn Deadlock (start s mode)) × (always_traps told.counts ≡ true → AllEndIn Trap (start s mode))
+
+-- After the step that decided how a run ends, each run ends badly, and so it does from the start where no step decided it.
+abbrev pub BlamesAreOfAllRuns : Type 0
+BlamesAreOfAllRuns =
+    (s : Program) (mode : Mode) (most limit : ℕ) (steps : List Step)
+    → ((d : Decided) → IsBlame most limit (start s mode) steps (At d)
+      → (n : ℕ) (u : World) → d.depth < n → n ≤ length steps → fold (start s mode) (take n steps) ≡ Some u → AllEndBadly u × BoundsAllRuns (limit - n) u)
+    × (IsBlame most limit (start s mode) steps FromStart → AllEndBadly (start s mode) × BoundsAllRuns limit (start s mode))
 
 -- And of the runs that the console looks at from where it stands, where it says that there is no deadlock or trap from there: by states, or
 -- one by one.

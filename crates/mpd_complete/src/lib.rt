@@ -153,6 +153,19 @@ pub fn good_diagnoses_are_of_all_runs()
     ensures { told.GoodDiagnosesAreOfAllRuns }
 {}
 
+/// Where a diagnosis says of a script that every run hangs or traps (`it always hangs`, `it always traps`, `it always fails`), every run
+/// does, whatever its steps and their order, and as it says; each has at most as many steps as there was fuel, and can be continued until
+/// no step is enabled.
+pub fn failing_diagnoses_are_of_all_runs()
+    ensures { told.FailingDiagnosesAreOfAllRuns }
+{}
+
+/// After the step that is told to have decided how a run ends, every run ends in a deadlock or with a trap, whatever its steps and their
+/// order; so does every run from the start, where it is told that no step decided it.
+pub fn blames_are_of_all_runs()
+    ensures { told.BlamesAreOfAllRuns }
+{}
+
 /// Where the console says that there is no deadlock or no trap from where it stands, the runs that it looked at have the end of each run
 /// from there.
 pub fn consoles_see_all_ends()
