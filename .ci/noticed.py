@@ -5,9 +5,9 @@
     .ci/noticed.py --record    writes that all faults were noticed, of these files
     .ci/noticed.py --run       makes these runs, and writes the same where none failed; the status is 1 where one did
 
-The program takes no part in them, so what they show depends on the files of `compare/`, of `page/`, of the examples and of two pages that
-rows read: a digest of those stands in `.ci/noticed.txt`. A whole gate makes these runs, and an ordinary one where the digest is another; where
-nothing fails it is written.
+The program takes no part in them, so what they show depends on the files of `compare/` but for its transcripts, of `page/`, of the examples
+and of two pages that rows read: a digest of those stands in `.ci/noticed.txt`. A whole gate makes these runs, and an ordinary one where the
+digest is another; where nothing fails it is written.
 """
 import os
 import shlex
@@ -19,13 +19,15 @@ from record import bytes_of, digest_of, files_below
 
 FILE = '.ci/noticed.txt'
 FOLDERS = ('compare', 'examples', 'page')
+# What is below them and no such run reads: what Python keeps, and what the program alone is compared with.
+UNREAD = ('/__pycache__/', '/compare/words/')
 PAGES = ('docs/CONSOLE.md', 'docs/FORMATS.md')
 HEAD = '# Written by .ci/noticed.py after all of these runs, none of which failed, and never by hand.\n'
 
 
 def digest(root):
     """A digest of all that the runs of broken models depend on."""
-    found = [it for folder in FOLDERS for it in files_below(f'{root}/{folder}') if '__pycache__' not in it]
+    found = [it for folder in FOLDERS for it in files_below(f'{root}/{folder}') if not any(part in it for part in UNREAD)]
     return digest_of((os.path.relpath(it, root), bytes_of(it)) for it in [*found, *(f'{root}/{page}' for page in PAGES)])
 
 

@@ -48,6 +48,11 @@ class Noticed(WithFolder):
         self.write('compare/model/__pycache__/world.pyc', 'kept')
         self.assertTrue(noticed.is_remembered(self.folder))
 
+    def test_transcripts(self):
+        noticed.record(self.folder)
+        self.write('compare/words/explained.txt', 'another')
+        self.assertTrue(noticed.is_remembered(self.folder))
+
     def test_runs_that_all_pass(self):
         self.gate('complete', 'wide')
         self.assertEqual(noticed.runs(self.folder), [['compare/runs/complete.py', '--broken'], ['compare/runs/wide.py', '--broken']])
