@@ -85,12 +85,12 @@ doomed_ends s mode before u reached fuel doomed =
 
 pub blames_tell : (s : Program) (mode : Mode) (most limit : ℕ) (steps : List Step)
     → ((d : Decided) → IsBlame most limit (start s mode) steps (At d)
-      → (n : ℕ) (u : World) → d.depth < n → n ≤ length steps → fold (start s mode) (take n steps) ≡ Some u → AllEndBadly u × BoundsAllRuns (limit - n) u)
+    → (n : ℕ) (u : World) → d.depth < n → n ≤ length steps → fold (start s mode) (take n steps) ≡ Some u → AllEndBadly u × BoundsAllRuns (limit - n) u)
     × (IsBlame most limit (start s mode) steps FromStart → AllEndBadly (start s mode) × BoundsAllRuns limit (start s mode))
 blames_tell s mode most limit steps = (
-    (λ d is n u after within leads. doomed_ends s mode (take n steps) u leads (limit - n) (is.doomed n u (omega (arith, after)) within leads)),
-    (λ is. doomed_ends s mode [] (start s mode) refl limit (is 0 (start s mode) (omega arith) (omega arith) refl)),
-  )
+  (λ d is n u after within leads. doomed_ends s mode (take n steps) u leads (limit - n) (is.doomed n u (omega (arith, after)) within leads)),
+  (λ is. doomed_ends s mode [] (start s mode) refl limit (is 0 (start s mode) (omega arith) (omega arith) refl)),
+)
 
 -- ---- a diagnosis
 
@@ -101,10 +101,10 @@ fails_way (outcome.Deadlock calls) done left = inl refl
 fails_way (outcome.Trap ranks) done left = inr refl
 
 hangs_way : (w : Way) → (w ≡ Deadlock) ⊎ (w ≡ Trap) → same_way Trap w ≡ false → w ≡ Deadlock
-hangs_way w either trap = elim either [ | inl is ↦ is | inr is ↦ let yes = ap (same_way Trap) is in cc ]
+hangs_way w either trap = elim either [ inl is ↦ is | inr is ↦ let yes = ap (same_way Trap) is in cc ]
 
 traps_way : (w : Way) → (w ≡ Deadlock) ⊎ (w ≡ Trap) → same_way Deadlock w ≡ false → w ≡ Trap
-traps_way w either hang = elim either [ | inl is ↦ let yes = ap (same_way Deadlock) is in cc | inr is ↦ is ]
+traps_way w either hang = elim either [ inl is ↦ let yes = ap (same_way Deadlock) is in cc | inr is ↦ is ]
 
 pub failing_tells : (script file : List ℕ) (ranks : Option ℕ) (limits : StateLimits) (most runs : ℕ) (s : Program) (mode : Mode) (told : Diagnosis)
     → IsDiagnosis script file ranks limits most runs (first_standing s mode) told → always_fails told.counts ≡ true
@@ -122,9 +122,9 @@ failing_tells script file ranks limits most runs s mode told h fails =
     let said = complete s mode [] u refl fuel in
     let have : HaveAllOutcomes all u = have_outcomes fuel u (wide_walk fuel u) said all refl t.1 in
     let no : (x : Way) → count_in x all ≡ 0 → (steps : List Step) (w : World) → fold u steps ≡ Some w → enabled w ≡ [] → same_way x (way_of (ended.Ended (ending w))) ≡ false
-        = λ x none steps w f end.
-            let l = have steps w f end in
-            subst (λ (e : Ending). same_way x (way_of e) ≡ false) l.2 (none_in x all none l.0 (in_contains all l.0 l.1)) in
+    = λ x none steps w f end.
+    let l = have steps w f end in
+    subst (λ (e : Ending). same_way x (way_of e) ≡ false) l.2 (none_in x all none l.0 (in_contains all l.0 l.1)) in
     let badly : AllEndBadly u = λ steps w f end. fails_way (ending w) (no Done done steps w f end) (no Leftovers left steps w f end) in (
       badly,
       bound_runs fuel u (wide_walk fuel u) said all refl t.1,

@@ -86,7 +86,7 @@ abbrev pub BlamesAreOfAllRuns : Type 0
 BlamesAreOfAllRuns =
     (s : Program) (mode : Mode) (most limit : ℕ) (steps : List Step)
     → ((d : Decided) → IsBlame most limit (start s mode) steps (At d)
-      → (n : ℕ) (u : World) → d.depth < n → n ≤ length steps → fold (start s mode) (take n steps) ≡ Some u → AllEndBadly u × BoundsAllRuns (limit - n) u)
+    → (n : ℕ) (u : World) → d.depth < n → n ≤ length steps → fold (start s mode) (take n steps) ≡ Some u → AllEndBadly u × BoundsAllRuns (limit - n) u)
     × (IsBlame most limit (start s mode) steps FromStart → AllEndBadly (start s mode) × BoundsAllRuns limit (start s mode))
 
 -- And of the runs that the console looks at from where it stands, where it says that there is no deadlock or trap from there: by states, or

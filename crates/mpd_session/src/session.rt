@@ -113,7 +113,7 @@ impl<'c> Model for Session<'c> {
 
     ghost coded = { held_code };
 
-    ghost view = { λ s. record { trail = s.debugger.trail; breaks = s.breaks; version = s.version } };
+    ghost view = { λ s. record { trail = s.debugger.trail; breaks = s.breaks.value; version = s.version } };
 }
 
 impl<'c> Session<'c> {
