@@ -89,7 +89,7 @@ pub blames_tell : (s : Program) (mode : Mode) (most limit : ℕ) (steps : List S
     × (IsBlame most limit (start s mode) steps FromStart → AllEndBadly (start s mode) × BoundsAllRuns limit (start s mode))
 blames_tell s mode most limit steps = (
   (λ d is n u after within leads. doomed_ends s mode (take n steps) u leads (limit - n) (is.doomed n u (omega (arith, after)) within leads)),
-  (λ is. doomed_ends s mode [] (start s mode) refl limit (is 0 (start s mode) (omega arith) (omega arith) refl)),
+  (λ is. let all : limit - 0 ≡ limit = omega arith in doomed_ends s mode [] (start s mode) refl limit (subst (λ n. is_doomed n (start s mode) ≡ true) all (is 0 (start s mode) (omega arith) (omega arith) refl))),
 )
 
 -- ---- a diagnosis
