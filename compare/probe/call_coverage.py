@@ -81,7 +81,8 @@ LEFT_OUT = {
         **dict.fromkeys(('keep', 'reopen', 'refused_again', 'take_named', 'ended_words', 'source_taken', 'source_refused'), BY_WORDS),
         **dict.fromkeys(('doing_of', 'finish_rank', 'goto_command', 'known_for', 'lead_of', 'push_break_line', 'push_reply'), BY_WORDS)},
     'mpd_names': {
-        'push_read': 'called by explain', **dict.fromkeys(('is_blocked', 'can_wake', 'end_name'), 'takes no memory'),
+        'push_read': 'called by explain',
+        **dict.fromkeys(('is_blocked', 'can_wake', 'end_name', 'placed_call', 'stand', 'stands'), 'takes no memory'),
         **dict.fromkeys(('find_named', 'issue_line', 'rank_line', 'push_issuer', 'push_placed', 'push_spaced', 'push_break', 'push_cell_name', 'push_list',
                          'push_list_about', 'push_named', 'push_source', 'push_variables', 'push_end', 'push_end_places'), BY_WORDS)}}
 

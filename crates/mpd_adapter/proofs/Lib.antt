@@ -1,6 +1,5 @@
 pub mod SheetLemmas
 pub mod SeenLemmas
-pub mod RankLemmas
 pub mod ShelfLemmas
 pub mod DeskLemmas
 pub mod MarkLemmas

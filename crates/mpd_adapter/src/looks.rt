@@ -7,7 +7,7 @@ ghost use Rattle.mpd_adapter.specs.Looks as spec;
 
 use crate::moves::{open_among, own_among};
 use crate::numbers::{Shelf, thread_of};
-use crate::rank::{push_rank_doing, stand};
+use crate::rank::push_rank_doing;
 use crate::shelves::held_at;
 use crate::task::Look;
 use mpd_core::Core;
@@ -17,7 +17,7 @@ use mpd_dap::{
 };
 use mpd_explain::{push_candidate, push_told};
 use mpd_model::{Decision, Outcome, RANKS_MAX, Step};
-use mpd_names::end_name;
+use mpd_names::{end_name, stand};
 use mpd_policy::{Ending, decide};
 use mpd_session::Session;
 use std::alloc::{AllocError, Global};

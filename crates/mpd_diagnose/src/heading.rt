@@ -8,8 +8,8 @@ ghost use Rattle.mpd_diagnose.specs.Headings as spec;
 
 use mpd_core::Core;
 use mpd_explore::Ending;
-use mpd_model::{Activity, IssuedCall, Outcome, TrappedRank};
-use mpd_names::{issue_line, rank_line};
+use mpd_model::{IssuedCall, Outcome, TrappedRank};
+use mpd_names::{issue_line, rank_line, stand};
 use std::alloc::{AllocError, Global};
 use std::collections::BTreeSet;
 use std::marker::Model;
@@ -63,16 +63,12 @@ fn insert_some(numbers: &mut BTreeSet<usize>, number: usize) -> Result<(), Alloc
     }
 }
 
-/// The line where a rank stands: that of its next statement, or where it is blocked that of the call that it waits in; 0 where it has ended.
+/// The line, from 1, where a rank stands; 0 of one that has ended.
+#[tactic(auto, using(crate::proofs::StandLemmas::standing_is))]
 fn standing_line(core: &Core<'_>, rank: usize) -> usize
     ensures { result ≡ spec.standing_line core.now.program core.now.world rank }
 {
-    match core.activity(rank) {
-        None => 0,
-        Some(Activity::Blocked) => issue_line(core, core.board().last_call(rank)),
-        Some(Activity::Running) => rank_line(core, rank),
-        Some(Activity::Trapped(_)) => rank_line(core, rank),
-    }
+    stand(core, rank).unwrap_or(0)
 }
 
 /// The lines where ranks stand, each once: a rank that has ended stands nowhere.

@@ -1,11 +1,9 @@
 -- Lines, or that there are none; and the lines of the numbers that pass a test.
-use Rattle.std.proofs.Common.{◌≡◌, ℕ, suc, ◌<◌, ◌≤◌, ◌+◌, ◌-◌, ◌==◌, Bool, true, false, cond, List, [], ◌∷◌, ◌++◌, length, slice_get, refl, sym, ap, ◌∙◌, arith, append_assoc, append-nil}
+use Rattle.std.proofs.Common.{◌≡◌, ℕ, suc, ◌<◌, ◌+◌, ◌-◌, ◌==◌, Bool, true, false, cond, List, [], ◌∷◌, ◌++◌, length, refl, sym, ap, ◌∙◌, arith, append_assoc, append-nil}
 use Rattle.std.specs.List.{filter, flat_map, range_with_len}
 use Rattle.std.proofs.lemmas.Bool.Decides.{nat_tests}
-use Rattle.std.proofs.lemmas.Option.{slice_get_past}
-use Rattle.mpd_model.specs.steps.World.{World}
 use Rattle.mpd_model.specs.texts.Texts.{line}
-use Rattle.mpd_explain.specs.Shown.{or_none, running_words}
+use Rattle.mpd_explain.specs.Shown.{or_none}
 
 pub none_told : (none lines : List ℕ) → (length lines == 0) ≡ true → or_none none lines ≡ line none
 none_told none [] h = refl
@@ -15,11 +13,7 @@ pub some_told : (none lines : List ℕ) → (length lines == 0) ≡ false → or
 some_told none [] h = cc
 some_told none (c ∷ cs) h = refl
 
--- a rank that isn't there
-pub not_running : (number p : ℕ) (w : World) (before : List ℕ) → length w.ranks ≤ p → before ≡ before ++ running_words number (slice_get w.ranks p)
-not_running number p w before h = sym (ap (λ o. before ++ running_words number o) (slice_get_past w.ranks p h) ∙ append-nil before)
-
-pub ruleset telling = (none_told, some_told, not_running)
+pub ruleset telling = (none_told, some_told)
 
 -- ---- the numbers of a range that pass a test, one number at a time
 

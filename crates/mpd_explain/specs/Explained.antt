@@ -4,8 +4,6 @@ use Rattle.std.specs.Fmt.{decimal}
 use Rattle.std.specs.List.{flat_map}
 use Rattle.mpd_model.specs.declared.step.CallId.{CallId}
 use Rattle.mpd_model.specs.declared.step.Step.{Step}
-use Rattle.mpd_model.specs.declared.call.Activity.{Activity}
-use Rattle.mpd_model.specs.declared.call.Activity.TheVariants.{Running, Blocked, Trapped}
 use Rattle.mpd_model.specs.declared.call.CallKind.{CallKind}
 use Rattle.mpd_model.specs.declared.call.CallKind.TheVariants.{Send, Recv, Wait, Waitany, Barrier}
 use Rattle.mpd_model.specs.declared.call.Mode.{Mode}
@@ -14,11 +12,14 @@ use Rattle.mpd_model.specs.declared.call.RecvCall.{RecvCall}
 use Rattle.mpd_model.specs.declared.outcome.TrappedRank.{TrappedRank}
 use Rattle.mpd_model.specs.declared.outcome.Outcome.TheVariants.{Done, Leftovers, Deadlock, Trap}
 use Rattle.mpd_model.specs.script.Program.{Program}
-use Rattle.mpd_model.specs.steps.World.{RankWorld, World, Board, call_id, kind_at, is_barrier, last_call, rank_numbers, start}
+use Rattle.mpd_model.specs.steps.World.{World, Board, call_id, kind_at, is_barrier, rank_numbers, start}
 use Rattle.mpd_model.specs.steps.Next.{fold, is_at_barrier}
-use Rattle.mpd_model.specs.steps.Outcomes.{has_ended, ids_of}
+use Rattle.mpd_model.specs.steps.Outcomes.{ids_of}
 use Rattle.mpd_model.specs.texts.Texts.{line, id_text, trap_name}
-use Rattle.mpd_names.specs.Placed.{rank_line, placed}
+use Rattle.mpd_names.specs.declared.place.Stands.{Stands}
+use Rattle.mpd_names.specs.declared.place.Stands.TheVariants as at
+use Rattle.mpd_names.specs.Placed.{rank_line, placed, placed_text}
+use Rattle.mpd_names.specs.Stand.{stands_of}
 use Rattle.mpd_names.specs.Reads.{read_text}
 use Rattle.mpd_policy.specs.declared.ending.Ending.{Ending}
 use Rattle.mpd_policy.specs.declared.ending.Ending.TheVariants.{Ended, Cut}
@@ -78,20 +79,14 @@ helps s w c = miss_line s w.board (nearest w c) ++ taken_line s w.board (taken w
 abbrev pub request_lines : Program → World → CallId → List ℕ
 request_lines s w c = request_line s w.board c ++ helps s w c
 
--- the call that a rank waits in
-abbrev pub last_text : Program → Board → CallId → List ℕ
-last_text s b c = codes "it waits at " ++ placed s b c
-
--- where a rank stands: that call, or the line that it has not got past
-abbrev pub stand_text : Program → World → ℕ → Activity → List ℕ
-stand_text s w q Blocked = last_text s w.board (last_call w.board q)
-stand_text s w q Running = codes "it is at line " ++ decimal (rank_line s.lines (slice_get w.ranks q))
-stand_text s w q (Trapped t) = codes "it is at line " ++ decimal (rank_line s.lines (slice_get w.ranks q))
-
--- why a rank is not at a barrier
-abbrev pub absence : Program → World → ℕ → Option RankWorld → List ℕ
-absence s w q None = codes "it is none"
-absence s w q (Some r) = if has_ended r then codes "it has ended" else stand_text s w q r.activity
+-- why a rank is not at a barrier: where it stands, the call that it waits in or the line that it has not got past
+abbrev pub absence : Option Stands → List ℕ
+absence None = codes "it is none"
+absence (Some at.Ended) = codes "it has ended"
+absence (Some (at.At line)) = codes "it is at line " ++ decimal line
+absence (Some (at.Waits call)) = codes "it waits at " ++ placed_text call
+absence (Some (at.CanGoOn call)) = codes "it waits at " ++ placed_text call
+absence (Some (at.Trapped line t)) = codes "it is at line " ++ decimal line
 
 -- `    rank 1 is not there: it has ended`, `    rank 2 is not there: it waits at line 9, 2.0 recv from 1 tag 2`
 abbrev pub absence_line : ℕ → List ℕ → List ℕ
@@ -99,7 +94,7 @@ absence_line q why = line (codes "    rank " ++ decimal q ++ codes " is not ther
 
 -- that of a rank which is not at a barrier
 abbrev pub absent_line : Program → World → ℕ → List ℕ
-absent_line s w q = if is_at_barrier w q then [] else absence_line q (absence s w q (slice_get w.ranks q))
+absent_line s w q = if is_at_barrier w q then [] else absence_line q (absence (stands_of s w q))
 
 -- the lines after that of a blocked call
 abbrev pub details : Program → World → CallId → Option CallKind → List ℕ

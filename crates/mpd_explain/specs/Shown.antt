@@ -1,19 +1,16 @@
 -- Looks at a state: ranks, calls, free calls, and the steps that are enabled (docs/CONSOLE.md, "Looks").
-use Rattle.std.specs.Prelude.{ℕ, Bool, true, false, if◌then◌else◌, List, [], ◌∷◌, ◌++◌, slice_get, Option, Some, None, codes}
-use Rattle.std.specs.Option.{option_map}
+use Rattle.std.specs.Prelude.{ℕ, List, [], ◌∷◌, ◌++◌, Option, Some, None, codes}
 use Rattle.std.specs.Fmt.{decimal}
 use Rattle.std.specs.List.{flat_map}
 use Rattle.mpd_model.specs.declared.step.CallId.{CallId}
-use Rattle.mpd_model.specs.declared.call.Trap.{Trap}
-use Rattle.mpd_model.specs.declared.call.Activity.{Activity}
-use Rattle.mpd_model.specs.declared.call.Activity.TheVariants.{Running, Blocked, Trapped}
 use Rattle.mpd_model.specs.script.Program.{Program}
-use Rattle.mpd_model.specs.steps.World.{RankWorld, World, Board, call_id, rank_numbers, call_numbers, last_call, pending, posted}
-use Rattle.mpd_model.specs.steps.Next.{enabled, can_wake}
-use Rattle.mpd_model.specs.steps.Outcomes.{has_ended}
-use Rattle.mpd_model.specs.texts.Texts.{line, id_text, call_text, trap_name}
+use Rattle.mpd_model.specs.steps.World.{World, Board, call_id, rank_numbers, call_numbers, pending, posted}
+use Rattle.mpd_model.specs.steps.Next.{enabled}
+use Rattle.mpd_model.specs.texts.Texts.{line, id_text, call_text}
+use Rattle.mpd_names.specs.declared.place.Stands.{Stands}
 use Rattle.mpd_names.specs.Placed.{placed}
-use Rattle.mpd_explain.specs.Steps.{line_of, call_line_of}
+use Rattle.mpd_names.specs.Stand.{stands_of, stands_text}
+use Rattle.mpd_explain.specs.Steps.{call_line_of}
 use Rattle.mpd_explain.specs.Candidates.{enabled_line}
 
 -- lines, or one that says that there are none
@@ -23,29 +20,14 @@ or_none none (c ∷ cs) = c ∷ cs
 
 -- ---- ranks
 
--- a rank that runs, at a line
-abbrev pub running_words : ℕ → Option RankWorld → List ℕ
-running_words number None = []
-running_words number (Some r) = if has_ended r then codes " has ended" else codes " is at line " ++ decimal number
-
--- a rank that is trapped, at a line
-abbrev pub trapped_words : ℕ → Trap → List ℕ
-trapped_words number t = codes " is trapped at line " ++ decimal number ++ codes ": " ++ trap_name t
-
--- a rank that is blocked, where its call is complete or not
-abbrev pub blocked_words : Bool → List ℕ
-blocked_words true = codes " can go on from "
-blocked_words false = codes " waits at "
-
-abbrev pub doing_by : Program → World → ℕ → Option Activity → List ℕ
-doing_by s w p None = []
-doing_by s w p (Some Running) = running_words (line_of s w p) (slice_get w.ranks p)
-doing_by s w p (Some Blocked) = blocked_words (can_wake w p) ++ placed s w.board (last_call w.board p)
-doing_by s w p (Some (Trapped t)) = trapped_words (line_of s w p) t
+-- a rank by where it stands; one that isn't there stands nowhere
+abbrev pub doing_by : Option Stands → List ℕ
+doing_by None = []
+doing_by (Some stands) = stands_text stands
 
 -- ` waits at line 9, 0.1 recv from 1 tag 7`
 abbrev pub doing : Program → World → ℕ → List ℕ
-doing s w p = doing_by s w p (option_map (λ (r : RankWorld). r.activity) (slice_get w.ranks p))
+doing s w p = doing_by (stands_of s w p)
 
 abbrev pub doing_line : Program → World → ℕ → List ℕ
 doing_line s w p = line (codes "rank " ++ decimal p ++ doing s w p)

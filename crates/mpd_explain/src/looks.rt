@@ -1,16 +1,15 @@
 //! Looks at a state: ranks, calls, free calls, and the steps that are enabled (docs/CONSOLE.md, "Looks").
 
-ghost use Rattle.std.specs.Prelude.{◌≡◌, ◌++◌, ◌<◌, [], if◌then◌else◌, OnOk, slice_get, string_bytes};
+ghost use Rattle.std.specs.Prelude.{◌≡◌, ◌++◌, ◌<◌, [], if◌then◌else◌, OnOk, string_bytes};
 ghost use Rattle.std.specs.List.{flat_map};
 ghost use Rattle.mpd_model.specs.steps.World.{is_pending as pending_on, is_posted as posted_on};
-ghost use Rattle.mpd_explain.specs.Steps.{line_of};
 ghost use Rattle.mpd_explain.specs.Candidates.{enabled_line};
 ghost use Rattle.mpd_explain.specs.Shown as shown;
 
 use crate::candidates::push_enabled_line;
 use mpd_core::Core;
-use mpd_model::{Activity, CallId, CallKind, Step, Trap};
-use mpd_names::{can_wake, issue_line, push_placed, rank_line};
+use mpd_model::{CallId, CallKind, Step};
+use mpd_names::{issue_line, push_placed, stands};
 use std::alloc::{AllocError, Global};
 
 /// Adds lines, or one that says that there are none.
@@ -25,72 +24,14 @@ pub(crate) fn push_or_none(out: &mut String, none: &str, lines: &str) -> Result<
     out.push_str(lines)
 }
 
-/// Adds that a rank that isn't blocked or trapped has ended, or the line that it is at.
-#[tactic(auto, using(crate::proofs::ShownLemmas::telling))]
-fn push_running(core: &Core<'_>, out: &mut String, rank: usize) -> Result<(), AllocError>
-    ensures { OnOk result (string_bytes out.new ≡ string_bytes out.old ++ shown.running_words (line_of core.now.program core.now.world rank) (slice_get core.now.world.ranks rank)) }
-{
-    if rank >= core.rank_count() {
-        return Ok(());
-    }
-    if core.rank(rank).has_ended(core.code()) {
-        return out.push_str(" has ended");
-    }
-    let line = rank_line(core, rank);
-    write!(out, " is at line {line}")
-}
-
-/// Adds where a rank is trapped, and why.
-fn push_trapped(
-    core: &Core<'_>,
-    out: &mut String,
-    rank: usize,
-    trap: Trap,
-) -> Result<(), AllocError>
-    ensures { OnOk result (string_bytes out.new ≡ string_bytes out.old ++ shown.trapped_words (line_of core.now.program core.now.world rank) trap) }
-{
-    let line = rank_line(core, rank);
-    let name = trap.name();
-    out.push_str(" is trapped at line ")?;
-    write!(out, "{line}")?;
-    out.push_str(": ")?;
-    out.push_str(name)?;
-    Ok(())
-}
-
-/// What is told of a blocked rank, by whether its call is complete.
-fn blocked_words(can_wake: bool) -> &'static str
-    ensures { result.now ≡ shown.blocked_words can_wake }
-{
-    if can_wake {
-        " can go on from "
-    } else {
-        " waits at "
-    }
-}
-
-/// Adds what a rank is doing.
-fn push_doing(core: &Core<'_>, out: &mut String, rank: usize) -> Result<(), AllocError>
-    ensures { OnOk result (string_bytes out.new ≡ string_bytes out.old ++ shown.doing core.now.program core.now.world rank) }
-{
-    match core.activity(rank) {
-        None => Ok(()),
-        Some(Activity::Running) => push_running(core, out, rank),
-        Some(Activity::Blocked) => {
-            out.push_str(blocked_words(can_wake(core, rank)))?;
-            push_placed(core, out, core.board().last_call(rank))
-        }
-        Some(Activity::Trapped(trap)) => push_trapped(core, out, rank, trap),
-    }
-}
-
-/// Adds the line of what a rank is doing.
+/// Adds the line of where a rank stands.
 fn push_rank(core: &Core<'_>, out: &mut String, rank: usize) -> Result<(), AllocError>
     ensures { OnOk result (string_bytes out.new ≡ string_bytes out.old ++ shown.doing_line core.now.program core.now.world rank) }
 {
-    write!(out, "rank {rank}")?;
-    push_doing(core, out, rank)?;
-    out.push('\n')
+    match stands(core, rank) {
+        None => write!(out, "rank {rank}\n"),
+        Some(stands) => write!(out, "rank {rank}{stands}\n"),
+    }
 }
 
 /// Adds a line for each rank: what it is doing, and where. `Err` means that memory was refused.

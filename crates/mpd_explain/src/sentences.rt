@@ -1,10 +1,11 @@
 //! What is told of calls that are blocked or left over, and of ranks that are trapped (docs/FORMATS.md, "Explanations").
 
-ghost use Rattle.std.specs.Prelude.{◌≡◌, ◌++◌, IfOk, OnOk, OnErr, IsTrue, codes, slice_get, string_bytes};
+ghost use Rattle.std.specs.Prelude.{◌≡◌, ◌++◌, IfOk, OnOk, OnErr, IsTrue, codes, string_bytes};
 ghost use Rattle.std.specs.Fmt.{decimal};
 ghost use Rattle.std.specs.List.{flat_map};
 ghost use Rattle.mpd_model.specs.steps.World.{call_at, kind_at, rank_numbers};
 ghost use Rattle.mpd_names.specs.Placed as placed;
+ghost use Rattle.mpd_names.specs.Stand.{stands_of};
 ghost use Rattle.mpd_explain.specs.Explained as explained;
 ghost use Rattle.mpd_explain.specs.Explained.{tells_of};
 ghost use Rattle.mpd_explain.specs.Waits.{waits_line};
@@ -15,8 +16,8 @@ use crate::request_calls::{is_at_barrier, requests};
 use crate::waits::{push_cycle_lines, push_waits_line};
 use mpd_core::Core;
 use mpd_explore::Ending;
-use mpd_model::{Activity, CallId, CallKind, Outcome, RecvCall, SendCall, TrappedRank, is_barrier};
-use mpd_names::{push_placed, push_read, rank_line};
+use mpd_model::{CallId, CallKind, Outcome, RecvCall, SendCall, TrappedRank, is_barrier};
+use mpd_names::{Stands, push_placed, push_read, rank_line, stands};
 use std::alloc::{AllocError, Global};
 
 /// Adds a text and a number. It is inlined, so that the length of the text is known where it is added.
@@ -189,51 +190,23 @@ fn push_requests(
     Ok(())
 }
 
-/// Adds the call that a rank waits in.
-fn push_last(core: &Core<'_>, out: &mut String, call: CallId) -> Result<(), AllocError>
-    ensures { OnOk result (string_bytes out.new ≡ string_bytes out.old ++ explained.last_text core.now.program core.now.world.board call) }
-{
-    out.push_str("it waits at ")?;
-    push_placed(core, out, call)?;
-    Ok(())
-}
-
-/// Adds where a rank stands: the call that it waits in, or the line that it has not got past.
-fn push_stand(
-    core: &Core<'_>,
-    out: &mut String,
-    rank: usize,
-    activity: Activity,
-) -> Result<(), AllocError>
-    ensures { OnOk result (string_bytes out.new ≡ string_bytes out.old ++ explained.stand_text core.now.program core.now.world rank activity) }
-{
-    match activity {
-        Activity::Blocked => push_last(core, out, core.board().last_call(rank)),
-        Activity::Running => push_number(out, "it is at line ", rank_line(core, rank)),
-        Activity::Trapped(_) => push_number(out, "it is at line ", rank_line(core, rank)),
-    }
-}
-
 /// Adds why a rank is not at a barrier.
-#[tactic(auto, using(crate::proofs::TellLemmas::telling))]
 fn push_absence(core: &Core<'_>, out: &mut String, rank: usize) -> Result<(), AllocError>
-    ensures { OnOk result (string_bytes out.new ≡ string_bytes out.old ++ explained.absence core.now.program core.now.world rank (slice_get core.now.world.ranks rank)) }
+    ensures { OnOk result (string_bytes out.new ≡ string_bytes out.old ++ explained.absence (stands_of core.now.program core.now.world rank)) }
 {
-    if rank >= core.rank_count() {
-        return out.push_str("it is none");
-    }
-    if core.rank(rank).has_ended(core.code()) {
-        return out.push_str("it has ended");
-    }
-    match core.activity(rank) {
+    match stands(core, rank) {
         None => out.push_str("it is none"),
-        Some(activity) => push_stand(core, out, rank, activity),
+        Some(Stands::Ended) => out.push_str("it has ended"),
+        Some(Stands::At(line)) => push_number(out, "it is at line ", line),
+        Some(Stands::Waits(call)) => write!(out, "it waits at {call}"),
+        Some(Stands::CanGoOn(call)) => write!(out, "it waits at {call}"),
+        Some(Stands::Trapped(line, _)) => push_number(out, "it is at line ", line),
     }
 }
 
 /// Adds the line of a rank that is not at a barrier.
 fn push_absence_line(core: &Core<'_>, out: &mut String, rank: usize) -> Result<(), AllocError>
-    ensures { OnOk result (string_bytes out.new ≡ string_bytes out.old ++ explained.absence_line rank (explained.absence core.now.program core.now.world rank (slice_get core.now.world.ranks rank))) }
+    ensures { OnOk result (string_bytes out.new ≡ string_bytes out.old ++ explained.absence_line rank (explained.absence (stands_of core.now.program core.now.world rank))) }
 {
     push_number(out, "    rank ", rank)?;
     out.push_str(" is not there: ")?;

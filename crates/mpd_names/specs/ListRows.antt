@@ -14,7 +14,11 @@ use Rattle.mpd_model.specs.script.Program.{Program}
 use Rattle.mpd_model.specs.declared.call.MatchSet.TheVariants.{Pair}
 use Rattle.mpd_model.specs.steps.World.{RankWorld, World, call_id}
 use Rattle.mpd_model.specs.texts.Texts.{line}
+use Rattle.mpd_names.specs.declared.place.PlacedCall.{PlacedCall}
+use Rattle.mpd_names.specs.declared.place.Stands.TheVariants as at
 use Rattle.mpd_names.specs.NameRows.{five}
+use Rattle.mpd_names.specs.Placed.{placed_call_of}
+use Rattle.mpd_names.specs.Stand.{stands_of, line_of, stands_text}
 use Rattle.mpd_names.specs.Held.{short_request, short_cells, variables_text}
 use Rattle.mpd_names.specs.Listed.{is_shown, list_text, about_text}
 use Rattle.mpd_names.specs.Sources.{source}
@@ -83,6 +87,28 @@ paired = record here { board = record here.board { sets = Pair (call_id 0 0) (ca
 pub row_paired : list_text script paired text ≡ flat_map line (codes "    1  a" ∷ codes "    2  b  <- rank 1 can go on" ∷ codes "    3  c  <- rank 0, rank 3 trapped" ∷ codes "ended: rank 2" ∷ [])
 unfolding digits
 row_paired = refl
+
+abbrev in_call : PlacedCall
+in_call = record { call = call_id 1 0; line = 2; kind = Some irecv.kind }
+
+-- the calls of ranks 0 and 1, and one that isn't there
+pub row_placed : map (placed_call_of script here.board) (call_id 1 0 ∷ call_id 0 0 ∷ call_id 2 0 ∷ [])
+    ≡ in_call ∷ record { call = call_id 0 0; line = 2; kind = Some irecv.kind } ∷ record { call = call_id 2 0; line = 0; kind = None } ∷ []
+row_placed = refl
+
+pub row_stands : map (stands_of script here) (0 ∷ 1 ∷ 2 ∷ 3 ∷ 4 ∷ []) ≡ Some (at.At 3) ∷ Some (at.Waits in_call) ∷ Some at.Ended ∷ Some (at.Trapped 3 ZeroDivisor) ∷ None ∷ []
+row_stands = refl
+
+pub row_goes_on : stands_of script paired 1 ≡ Some (at.CanGoOn in_call)
+row_goes_on = refl
+
+pub row_lines : map line_of (at.At 3 ∷ at.Waits in_call ∷ at.CanGoOn in_call ∷ at.Ended ∷ at.Trapped 4 ZeroDivisor ∷ []) ≡ Some 3 ∷ Some 2 ∷ Some 2 ∷ None ∷ Some 4 ∷ []
+row_lines = refl
+
+pub row_words : map stands_text (at.At 3 ∷ at.Waits in_call ∷ at.CanGoOn (record in_call { kind = None }) ∷ at.Ended ∷ at.Trapped 4 ZeroDivisor ∷ [])
+    ≡ codes " is at line 3" ∷ codes " waits at line 2, 1.0 irecv from any tag 7" ∷ codes " can go on from line 2, 1.0" ∷ codes " has ended" ∷ codes " is trapped at line 4: zero-divisor" ∷ []
+unfolding digits
+row_words = refl
 
 pub row_about : map {B = List ℕ} (about_text script here text) (1 ∷ 2 ∷ 4 ∷ []) ≡ three ∷ line (codes "rank 2 has ended") ∷ [] ∷ []
 unfolding digits

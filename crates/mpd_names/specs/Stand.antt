@@ -1,11 +1,17 @@
 -- Where ranks stand in a script.
-use Rattle.std.specs.Prelude.{ℕ, Bool, false, if◌then◌else◌, List, Option, Some, None, slice_get}
+use Rattle.std.specs.Prelude.{ℕ, Bool, false, if◌then◌else◌, List, ◌++◌, Option, Some, None, slice_get, codes}
+use Rattle.std.specs.Fmt.{decimal}
 use Rattle.mpd_model.specs.declared.call.Activity.{Activity}
 use Rattle.mpd_model.specs.declared.call.Activity.TheVariants.{Running, Blocked, Trapped}
 use Rattle.mpd_model.specs.script.Program.{Program}
 use Rattle.mpd_model.specs.steps.World.{RankWorld, World, Board, call_at, last_call}
 use Rattle.mpd_model.specs.steps.Outcomes.{has_ended}
-use Rattle.mpd_names.specs.Placed.{issue_line, rank_line}
+use Rattle.mpd_model.specs.steps.Next.{can_wake}
+use Rattle.mpd_model.specs.texts.Texts.{trap_name}
+use Rattle.mpd_names.specs.declared.place.PlacedCall.{PlacedCall}
+use Rattle.mpd_names.specs.declared.place.Stands.{Stands}
+use Rattle.mpd_names.specs.declared.place.Stands.TheVariants as at
+use Rattle.mpd_names.specs.Placed.{issue_line, rank_line, placed_call_of, placed_text}
 
 abbrev pub ended_by : Option RankWorld → Bool
 ended_by None = false
@@ -28,3 +34,42 @@ line_at lines b p (Some r) = Some (line_by lines b p r r.activity)
 -- The line where a rank stands; one that has ended stands at none.
 abbrev pub stand : Program → World → ℕ → Option ℕ
 stand s w p = if rank_ended w p then None else line_at s.lines w.board p (slice_get w.ranks p)
+
+-- ---- where a rank stands, and whether it can go on
+
+-- a running rank, at a line unless it has ended
+abbrev pub running : Bool → ℕ → Stands
+running ended line = if ended then at.Ended else at.At line
+
+-- a blocked rank, in a call
+abbrev pub blocked : Bool → PlacedCall → Stands
+blocked complete call = if complete then at.CanGoOn call else at.Waits call
+
+abbrev pub stands_by : Program → World → ℕ → RankWorld → Activity → Stands
+stands_by s w p r Running = running (has_ended r) (rank_line s.lines (Some r))
+stands_by s w p r Blocked = blocked (can_wake w p) (placed_call_of s w.board (last_call w.board p))
+stands_by s w p r (Trapped t) = at.Trapped (rank_line s.lines (Some r)) t
+
+abbrev pub stands_at : Program → World → ℕ → Option RankWorld → Option Stands
+stands_at s w p None = None
+stands_at s w p (Some r) = Some (stands_by s w p r r.activity)
+
+-- Where a rank stands, by what it is doing. A rank that isn't there stands nowhere.
+abbrev pub stands_of : Program → World → ℕ → Option Stands
+stands_of s w p = stands_at s w p (slice_get w.ranks p)
+
+-- the line at which a rank stands that stands so
+abbrev pub line_of : Stands → Option ℕ
+line_of at.Ended = None
+line_of (at.At line) = Some line
+line_of (at.Waits call) = Some call.line
+line_of (at.CanGoOn call) = Some call.line
+line_of (at.Trapped line t) = Some line
+
+-- ` waits at line 9, 0.1 recv from 1 tag 7`
+abbrev pub stands_text : Stands → List ℕ
+stands_text at.Ended = codes " has ended"
+stands_text (at.At line) = codes " is at line " ++ decimal line
+stands_text (at.Waits call) = codes " waits at " ++ placed_text call
+stands_text (at.CanGoOn call) = codes " can go on from " ++ placed_text call
+stands_text (at.Trapped line t) = codes " is trapped at line " ++ decimal line ++ codes ": " ++ trap_name t

@@ -8,7 +8,7 @@ ghost use Rattle.mpd_names.specs.Held.{begun};
 ghost use Rattle.mpd_names.specs.Stand.{rank_ended};
 ghost use Rattle.mpd_names.specs.Listed as listed;
 
-use crate::stand::{can_wake, has_ended, stand};
+use crate::standing::{can_wake, has_ended, stand};
 use mpd_core::Core;
 use mpd_model::{Activity, bare_line, cut_line};
 use std::alloc::AllocError;

@@ -4,6 +4,7 @@ ghost use Rattle.std.specs.Prelude.{◌≡◌, ◌++◌, OnOk, slice_get, string
 ghost use Rattle.mpd_model.specs.steps.World.{call_at};
 ghost use Rattle.mpd_names.specs.Placed as spec;
 
+use crate::place::PlacedCall;
 use mpd_core::Core;
 use mpd_model::CallId;
 use std::alloc::AllocError;
@@ -40,16 +41,23 @@ pub fn rank_line(core: &Core<'_>, rank: usize) -> usize
     statement_line(core.code().lines(), core.next_statement(rank))
 }
 
+/// A call, the line of the statement that issued it, and what it is.
+pub fn placed_call(core: &Core<'_>, call: CallId) -> PlacedCall
+    ensures { result ≡ spec.placed_call_of core.now.program core.now.world.board call }
+{
+    PlacedCall {
+        call,
+        line: issue_line(core, call),
+        kind: core.board().kind(call),
+    }
+}
+
 /// Adds where a call was issued, its number, and what it is. `Err` means that memory was refused.
 pub fn push_placed(core: &Core<'_>, out: &mut String, call: CallId) -> Result<(), AllocError>
     ensures { OnOk result (string_bytes out.new ≡ string_bytes out.old ++ spec.placed core.now.program core.now.world.board call) }
 {
-    let line = issue_line(core, call);
-    write!(out, "line {line}, {call}")?;
-    if let Some(kind) = core.board().kind(call) {
-        write!(out, " {kind}")?;
-    }
-    Ok(())
+    let placed = placed_call(core, call);
+    write!(out, "{placed}")
 }
 
 /// Adds the rank of a call, and its line, as `rank 1, line 5`. `Err` means that memory was refused.

@@ -1,48 +1,15 @@
--- Where a rank stands, and whether it can go on.
-use Rattle.std.proofs.Common.{◌≡◌, ℕ, suc, Bool, true, false, not, ◌||◌, if◌then◌else◌, cond, List, [], ◌∷◌, ◌++◌, length, map, take, get_or, Option, Some, None, slice_get, refl, sym, ap, ◌∙◌, ◌<◌, ◌+◌, ◌==◌, inl, inr, arith}
+-- Whether a rank can go on, and what it holds.
+use Rattle.std.proofs.Common.{◌≡◌, ℕ, suc, Bool, true, false, not, ◌||◌, cond, List, [], ◌∷◌, ◌++◌, length, map, take, Some, slice_get, refl, sym, ap, ◌∙◌, ◌<◌, ◌+◌, ◌==◌, inl, inr, arith}
 use Rattle.std.specs.List.{filter, list_any}
 use Rattle.std.proofs.lemmas.Bool.Decides.{nat_tests}
 use Rattle.std.proofs.lemmas.List.{map_more}
 use Rattle.std.proofs.lemmas.Option.{get_or_from_slice_get, slice_get_cases}
-use Rattle.mpd_model.specs.declared.call.Activity.{Activity}
-use Rattle.mpd_model.specs.declared.call.Activity.TheVariants.{Running, Blocked, Trapped}
 use Rattle.mpd_model.specs.declared.step.Step.{Step}
 use Rattle.mpd_model.specs.declared.step.Step.TheVariants.{Local, Wake}
-use Rattle.mpd_model.specs.script.Program.{Program}
-use Rattle.mpd_model.specs.steps.World.{RankWorld, World, Board, call_at, last_call}
-use Rattle.mpd_model.specs.steps.Next.{waits, is_blocked, is_enabled, any_wakes_of}
-use Rattle.mpd_model.specs.steps.Outcomes.{has_ended}
-use Rattle.mpd_names.specs.Placed.{issue_line, rank_line}
-use Rattle.mpd_names.specs.Stand.{stand, line_by, line_at, ended_by, rank_ended}
+use Rattle.mpd_model.specs.steps.World.{RankWorld, World}
+use Rattle.mpd_model.specs.steps.Next.{is_enabled, any_wakes_of}
 use Rattle.mpd_session.specs.declared.reply.Holding.{Holding}
 use Rattle.mpd_session.specs.Looks.{can_go_on, holding_of}
-
--- ---- where a rank stands
-
-blocked_by : (lines : List ℕ) (b : Board) (p : ℕ) (r : RankWorld) (a : Activity) → is_blocked a ≡ true → line_by lines b p r a ≡ issue_line lines (call_at b (last_call b p))
-blocked_by lines b p r Running h = absurd (cc)
-blocked_by lines b p r Blocked h = refl
-blocked_by lines b p r (Trapped t) h = absurd (cc)
-
-going_by : (lines : List ℕ) (b : Board) (p : ℕ) (r : RankWorld) (a : Activity) → is_blocked a ≡ false → line_by lines b p r a ≡ rank_line lines (Some r)
-going_by lines b p r Running h = refl
-going_by lines b p r Blocked h = absurd (cc)
-going_by lines b p r (Trapped t) h = refl
-
-pub at_none : (s : Program) (w : World) (p : ℕ) (r : RankWorld) → slice_get w.ranks p ≡ Some r → has_ended r ≡ true → None ≡ stand s w p
-at_none s w p r e ended = rw (e, ended) refl
-
-pub at_blocked : (s : Program) (w : World) (p : ℕ) (r : RankWorld) (n : ℕ) → slice_get w.ranks p ≡ Some r → has_ended r ≡ false → waits (slice_get w.ranks p) ≡ true → n ≡ issue_line s.lines (call_at w.board (last_call w.board p)) → Some n ≡ stand s w p
-at_blocked s w p r n e goes blocked is =
-    let h : is_blocked r.activity ≡ true = sym (ap waits e) ∙ blocked in
-    ap Some (is ∙ sym (blocked_by s.lines w.board p r r.activity h)) ∙ sym (rw (e, goes) refl)
-
-pub at_line : (s : Program) (w : World) (p : ℕ) (r : RankWorld) (n : ℕ) → slice_get w.ranks p ≡ Some r → has_ended r ≡ false → waits (slice_get w.ranks p) ≡ false → n ≡ rank_line s.lines (slice_get w.ranks p) → Some n ≡ stand s w p
-at_line s w p r n e goes runs is =
-    let h : is_blocked r.activity ≡ false = sym (ap waits e) ∙ runs in
-    ap Some (is ∙ ap (rank_line s.lines) e ∙ sym (going_by s.lines w.board p r r.activity h)) ∙ sym (rw (e, goes) refl)
-
-pub ruleset standing = (at_none, at_blocked, at_line)
 
 -- ---- whether a rank can go on
 

@@ -14,7 +14,7 @@ use crate::script::push_if;
 use crate::steps::is_below;
 use mpd_core::Core;
 use mpd_model::{CallId, Step};
-use mpd_names::{is_blocked, issue_line, rank_line};
+use mpd_names::{issue_line, stand};
 use std::alloc::{AllocError, Global};
 
 /// Whether a rank can go on by itself: its local step is enabled, its wake, or its step of a waitany.
@@ -55,22 +55,6 @@ fn ready(alloc: Global, core: &Core<'_>) -> Result<NumberList, AllocError>
         push_if_ready(alloc, core, &mut items, rank)?;
     }
     Ok(NumberList { items })
-}
-
-/// The line where a rank stands, if it stands at one: that of the call that it waits in, or that of
-/// its next statement.
-#[tactic(auto, using(crate::proofs::PlaceLemmas::standing))]
-fn stand(core: &Core<'_>, rank: usize) -> Option<usize>
-    requires { rank < length core.now.world.ranks }
-    ensures { result ≡ stand_of core.now.program core.now.world rank }
-{
-    if core.rank(rank).has_ended(core.code()) {
-        return None;
-    }
-    if is_blocked(core, rank) {
-        return Some(issue_line(core, core.board().last_call(rank)));
-    }
-    Some(rank_line(core, rank))
 }
 
 /// The line where each rank stands, if it stands at one.

@@ -1,30 +1,7 @@
--- Where ranks stand, and the first of them that stands somewhere.
-use Rattle.std.proofs.Common.{◌≡◌, ℕ, suc, Bool, true, false, ◌<◌, ◌≤◌, ◌+◌, ◌-◌, length, Option, Some, None, slice_get, if◌then◌else◌, refl, sym, ap, ◌∙◌, arith}
+-- The first of a range of ranks that stands somewhere.
+use Rattle.std.proofs.Common.{◌≡◌, ℕ, suc, ◌<◌, ◌≤◌, ◌+◌, ◌-◌, Option, Some, None, refl, sym, ap, ◌∙◌, arith}
 use Rattle.std.specs.List.{range_with_len}
-use Rattle.std.proofs.lemmas.Option.{slice_get_past}
-use Rattle.mpd_model.specs.script.Program.{Program}
-use Rattle.mpd_model.specs.steps.World.{World, RankWorld}
-use Rattle.mpd_model.specs.steps.Outcomes.{has_ended}
-use Rattle.mpd_names.specs.Stand.{stand, line_at, ended_by}
 use Rattle.mpd_view.specs.Places.{or_else, first_some}
-
--- ---- where a rank stands
-
-stand_of : (s : Program) (w : World) (p : ℕ) (ended : Bool) → ended_by (slice_get w.ranks p) ≡ ended → stand s w p ≡ (if ended then None else line_at s.lines w.board p (slice_get w.ranks p))
-stand_of s w p ended e = ap (λ b. if b then None else line_at s.lines w.board p (slice_get w.ranks p)) e
-
-pub at_none : (s : Program) (w : World) (p : ℕ) (r : RankWorld) → slice_get w.ranks p ≡ Some r → has_ended r ≡ true → None ≡ stand s w p
-at_none s w p r e ended = sym (stand_of s w p true (ap ended_by e ∙ ended))
-
-pub at_line : (s : Program) (w : World) (p : ℕ) (r : RankWorld) (o : Option ℕ) → slice_get w.ranks p ≡ Some r → has_ended r ≡ false → o ≡ line_at s.lines w.board p (slice_get w.ranks p) → o ≡ stand s w p
-at_line s w p r o e goes is = is ∙ sym (stand_of s w p false (ap ended_by e ∙ goes))
-
-pub not_there : (s : Program) (w : World) (p : ℕ) → length w.ranks ≤ p → None ≡ stand s w p
-not_there s w p h = sym (ap (λ (o : Option RankWorld). if ended_by o then None else line_at s.lines w.board p o) (slice_get_past w.ranks p h))
-
-pub ruleset standing = (at_none, at_line, not_there)
-
--- ---- the first of a range that has a line
 
 module _ (f : ℕ → Option ℕ) where
   first_next : (i n : ℕ) → i < n → first_some f (range_with_len i (n - i)) ≡ or_else (f i) (first_some f (range_with_len (i + 1) (n - (i + 1))))

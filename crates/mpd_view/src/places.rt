@@ -1,44 +1,17 @@
 //! Where ranks stand in a script, as a view shows it.
 
-ghost use Rattle.std.specs.Prelude.{◌≡◌, ◌++◌, IfOk, OnOk, slice_get, string_bytes};
+ghost use Rattle.std.specs.Prelude.{◌≡◌, ◌++◌, IfOk, OnOk, string_bytes};
 ghost use Rattle.std.specs.List.{flat_map};
-ghost use Rattle.mpd_names.specs.Stand.{line_at, stand as stand_of};
 ghost use Rattle.mpd_view.specs.Places as spec;
 
 use crate::rows::push_to_right;
 use mpd_core::Core;
 use mpd_model::Activity;
-use mpd_names::{can_wake, issue_line, rank_line};
+use mpd_names::{can_wake, stand};
 use std::alloc::{AllocError, Global};
 
 /// How many columns stand before the number of a line.
 const GUTTER: usize = 9;
-
-/// The line of a rank that has not ended: that of its next statement, or if it is blocked that of the call that it waits in.
-fn line_of(core: &Core<'_>, rank: usize) -> Option<usize>
-    ensures { result ≡ line_at core.now.program.lines core.now.world.board rank (slice_get core.now.world.ranks rank) }
-{
-    match core.activity(rank) {
-        None => None,
-        Some(Activity::Blocked) => Some(issue_line(core, core.board().last_call(rank))),
-        Some(Activity::Running) => Some(rank_line(core, rank)),
-        Some(Activity::Trapped(_)) => Some(rank_line(core, rank)),
-    }
-}
-
-/// The line where a rank stands, from 1; none of one that has ended, or that isn't there.
-#[tactic(auto, using(crate::proofs::PlaceLemmas::standing))]
-fn stand(core: &Core<'_>, rank: usize) -> Option<usize>
-    ensures { result ≡ stand_of core.now.program core.now.world rank }
-{
-    if rank >= core.rank_count() {
-        return None;
-    }
-    if core.rank(rank).has_ended(core.code()) {
-        return None;
-    }
-    line_of(core, rank)
-}
 
 /// Adds a rank, if it stands at a line.
 fn push_if_here(
