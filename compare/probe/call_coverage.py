@@ -54,7 +54,7 @@ LEFT_OUT = {
                          'a_deadlock_has_a_witness'), 'a law')},
     'mpd_pool': {'check': 'called by direct/public_searches.rattle', 'limits': 'takes no memory'},
     'mpd_blame': {
-        'blame_lines': 'called by check_outcomes', 'line_of_leaf': 'called by blame_lines', **dict.fromkeys(('blame_run', 'push_blame'), BY_WORDS)},
+        'blame_lines': 'called by check_outcomes', 'blame_of_leaf': 'called by blame_lines', **dict.fromkeys(('blame_run', 'push_blame'), BY_WORDS)},
     'mpd_outcomes': {
         'push_count': 'called by check', 'is_met': 'called by explore_outcomes',
         **dict.fromkeys(('enough_fuel_is_enough', 'same_futures_go_on_alike', 'same_futures_have_one_walk'), 'a law')},

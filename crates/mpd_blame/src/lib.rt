@@ -7,5 +7,5 @@ pub mod told;
 pub mod words;
 
 pub use back::{Blame, Decided, blame_run};
-pub use told::{blame_lines, line_of_leaf};
+pub use told::{Told, blame_lines, blame_of_leaf};
 pub use words::push_blame;

@@ -3,6 +3,7 @@ use Rattle.std.specs.Prelude.{◌≡◌, ℕ, true, false, map, [], ◌∷◌, �
 use Rattle.std.specs.Fmt.{digits}
 use Rattle.mpd_model.specs.declared.call.Mode.TheVariants.{Rendezvous, Buffered, Slots}
 use Rattle.mpd_model.specs.declared.outcome.Outcome.TheVariants.{Leftovers, Deadlock, Trap}
+use Rattle.mpd_model.specs.declared.step.Step.TheVariants.{Local}
 use Rattle.mpd_policy.specs.declared.ending.Ending.{Ending}
 use Rattle.mpd_policy.specs.declared.ending.Ending.TheVariants.{Ended}
 use Rattle.mpd_explore.specs.declared.report.SearchLeaf.{SearchLeaf}
@@ -10,10 +11,11 @@ use Rattle.mpd_lines.specs.Folding.{cut, folded}
 use Rattle.mpd_lines.specs.declared.verdict.Verdict.TheVariants.{Good, Bad, NotWhole}
 use Rattle.mpd_outcomes.specs.declared.report.Count.TheVariants.{Exactly, More}
 use Rattle.mpd_runs.specs.declared.counts.WayCounts.{WayCounts}
+use Rattle.mpd_blame.specs.declared.back.Blame.TheVariants.{At, FromStart, OrEarlier, Open, Unknown}
 use Rattle.mpd_diagnose.specs.Headings.{with_numbers, with_some, lines_text}
 use Rattle.mpd_diagnose.specs.declared.groups.Group.{Group}
 use Rattle.mpd_diagnose.specs.Groups.{bad_first, groups, shortest}
-use Rattle.mpd_diagnose.specs.Hints.{tells_step}
+use Rattle.mpd_diagnose.specs.Hints.{hint, hint_line}
 use Rattle.mpd_diagnose.specs.Words.{named}
 use Rattle.mpd_diagnose.specs.Commands.{picture_file, run_commands, debug_command, draw_command, too_long, choices_words, to_file, full_command}
 use Rattle.mpd_diagnose.specs.Modes.{modes_up_to, worst, noticed, closing, all_good, not_all_tried}
@@ -160,10 +162,10 @@ pub row_pictures : picture_file (codes "run") false 1 ∷ picture_file (codes "r
 unfolding digits
 row_pictures = refl
 
--- a step is told only where its depth is known
-pub row_steps : tells_step (codes "  decided at depth 12: rank 0") ∷ tells_step (codes "  decided at depth 12 or earlier: x") ∷ tells_step (codes "  decided from the start: no") ∷ tells_step (codes "  decided at") ∷ tells_step [] ∷ []
-    ≡ true ∷ false ∷ false ∷ false ∷ false ∷ []
-row_steps = refl
+-- what to type is told of a step that decided, and not where that was earlier, or is not known
+pub row_hints : hint (Some (At (record { depth = 12; taken = Local 0; other = Local 1 }))) ∷ hint (Some (OrEarlier 12)) ∷ hint (Some FromStart) ∷ hint (Some Open) ∷ hint (Some Unknown) ∷ hint None ∷ []
+    ≡ hint_line ∷ [] ∷ [] ∷ [] ∷ [] ∷ [] ∷ []
+row_hints = refl
 
 -- what they come to in a line, of 3 ranks and of 1: of two, with others and with what was drawn
 pub row_ranks_text : brief_text (ranks_head 3) (in_mode Rendezvous) both None ++ brief_text (ranks_head 1) (in_mode Buffered) untidy None ++ brief_text (ranks_head 3) (in_mode Rendezvous) stopped (Some trapped) ++ brief_text (ranks_head 3) (in_mode Rendezvous) cut_short None

@@ -6,11 +6,11 @@ ghost use Rattle.mpd_model.specs.runs.Trail.{done_steps};
 ghost use Rattle.mpd_trail.specs.DebuggerViews.{AsFound, standing_of};
 ghost use Rattle.mpd_policy.specs.Wide.{wide_decision};
 ghost use Rattle.mpd_explore.specs.Witness.{HasWitness};
-ghost use Rattle.mpd_diagnose.specs.Details.{LineAt, IsDetailed, AreDetailed};
+ghost use Rattle.mpd_diagnose.specs.Details.{BlameAt, IsDetailed, AreDetailed};
 
 use crate::groups::Group;
 use crate::hint::push_hint;
-use mpd_blame::line_of_leaf;
+use mpd_blame::{Told, blame_of_leaf};
 use mpd_explain::{Beside, explanation_at};
 use mpd_explore::{SearchLeaf, SearchReport, Witnesses};
 use mpd_model::STEPS_MAX;
@@ -19,27 +19,30 @@ use mpd_policy::Wide;
 use mpd_trail::Debugger;
 use std::alloc::{AllocError, Global};
 
-/// The line of the step that decided how the run of the leaf of a number ends, where there is such a leaf, and it is a deadlock or a trap.
-/// The debugger is left as found.
-fn line_at(
+/// Where it was decided how the run of the leaf of a number ends, where there is such a leaf, and it is a deadlock or a trap. The debugger
+/// is left as found.
+fn blame_at(
     alloc: Global,
     debugger: &mut Debugger<'_>,
     limits: StateLimits,
     leaves: &[SearchLeaf],
     number: usize,
-) -> Result<String, AllocError>
+) -> Result<Told, AllocError>
     requires clean { length debugger.old.trail.steps ≡ debugger.old.trail.depth }
     requires at_start { debugger.old.trail.depth ≡ 0 }
     requires few { limits.fuel ≤ STEPS_MAX }
     requires listed { AllByRecursion (HasWitness wide_decision debugger.old.trail.program debugger.old.trail.mode (done_steps debugger.old.trail) limits.fuel debugger.old.world) leaves.now }
-    ensures line { IfOk result (λ t. LineAt limits (standing_of debugger.old) (slice_get leaves.now number) (string_bytes t)) }
+    ensures told { IfOk result (λ t. BlameAt limits (standing_of debugger.old) (slice_get leaves.now number) t.blame (string_bytes t.line)) }
     ensures as_found { AsFound (standing_of debugger.old) (standing_of debugger.new) }
 {
     debugger.state_is_reached();
     if number >= leaves.len() {
-        return Ok(String::new(alloc));
+        return Ok(Told {
+            blame: None,
+            line: String::new(alloc),
+        });
     }
-    line_of_leaf(alloc, debugger, limits, &leaves[number])
+    blame_of_leaf(alloc, debugger, limits, &leaves[number])
 }
 
 /// What is told of the leaf that is shown of a group. The debugger is left as found.
@@ -65,9 +68,9 @@ fn details_at(
     };
     let number = group.shown;
     let mut text = explanation_at(alloc, &Wide, debugger, report, number, beside)?;
-    let line = line_at(alloc, debugger, limits, &report.leaves, number)?;
+    let Told { blame, line } = blame_at(alloc, debugger, limits, &report.leaves, number)?;
     text.push_str(&line)?;
-    push_hint(&mut text, &line)?;
+    push_hint(&mut text, blame)?;
     Ok(text)
 }
 
