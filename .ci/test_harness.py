@@ -19,6 +19,7 @@ sys.path.insert(0, os.path.dirname(os.path.abspath(__file__)))
 import assumed
 import cited
 import copies
+import crate_pages
 import edit_files
 import growing
 import planted
@@ -651,6 +652,47 @@ pub fn tell_twice(n: u64) -> u64
         for row, said in (('| a row, `List::len`, `left` | `few`, `ok`; `exact` of `mpd_low` | `Some` | 1,226 |', []), ('| a row, `List::len` | `few`, `ok` | `Some` | 12 |', ['none has ok']),
                           ('| a row, `List::last` of `mpd_low` | its only one | `Some` | 12 |', ['no function List::last']), ('| Theorem `a` | Clauses | Files | Lines |', [])):
             self.assertEqual(list(cited.faults_in_row(row, self.found)), said, row)
+
+
+class CratePages(WithFolder):
+    """What the pages of crates say."""
+
+    def setUp(self):
+        super().setUp()
+        self.write('crates/mpd_low/src/list.rt', SOURCE)
+        self.write('crates/mpd_low/specs/steps/Told.antt', '-- A record.\npub record Told : Type 0 where\n  pub more : ℕ\n')
+        self.write('crates/mpd_high/src/main.rt', 'pub enum Mode {\n    Slots(usize),\n}\n\nfn two() {\n    let list = List::new();\n    list.len()\n}\n')
+        self.write('compare/probe/direct/rows.rattle', 'fn rows() {\n    let one = 1;\n    let two = 2;\n}\n')
+        self.write('docs/WORDS.md', '# Words\n\n## Lists\n')
+
+    def faults(self, text):
+        return list(crate_pages.faults_of_page(crate_pages.Sources(self.folder), 'mpd_low', text))
+
+    def test_code_stands_in_one_caller_in_its_order(self):
+        for code in ('let list = List::new();\n  list.len()', 'fn rows() {\n\n}', 'let two = 2;'):
+            self.assertEqual(self.faults(f'# mpd_low\n\n```\n{code}\n```\n'), [], code)
+        for code, number in (('let one = 1;\nlet three = 3;', 5), ('let two = 2;\nlet one = 1;', 5), ('let one = 1;\nlist.len()', 5), ('self.items.len()', 4)):
+            self.assertEqual([it for it, _ in self.faults(f'# mpd_low\n\n```\n{code}\n```\n')], [number], code)
+
+    def test_what_is_there(self):
+        for text in ('`List::len` (`exact`,\n`few`)', '`Told`, `more` and `mpd_low::left`', '`Mode::Slots` of `mpd_high`, `mpd_high::two`', '`specs/steps/Told.antt`',
+                     '`mpd_low/specs/steps/Told.antt`', '(docs/WORDS.md, "Words" and\n"Lists")', '`a b`'):
+            self.assertEqual(self.faults(f'# mpd_low\n\n{text}\n'), [], text)
+
+    def test_what_is_not(self):
+        for text in ('`gone`', '`List::last_one`', '`Mode`', '`Mode::Gone` of `mpd_high`', '`Told` of `mpd_gone`', '`specs/Told.antt`', 'docs/GONE.md', 'docs/WORDS.md, "Lists" and "Gone"'):
+            self.assertNotEqual(self.faults(f'# mpd_low\n\n{text}\n'), [], text)
+        self.assertEqual(self.faults('`List::first` (`few`)\n'), [(1, 'List::first has not all of few')])
+
+    def test_the_size_of_a_page(self):
+        self.assertEqual(self.faults('a line\n\n' * 15), [])
+        self.assertEqual(self.faults('a line\n' * 16), [(1, '16 lines, and not 15 at most')])
+        self.assertEqual(self.faults('\n' + 'a' * 101), [(2, '101 columns')])
+
+    def test_each_crate_that_is_called_has_one(self):
+        self.write('crates/mpd_low/README.md', '# mpd_low\n\n`gone`\n')
+        self.assertEqual(crate_pages.all_faults(self.folder, ('mpd_low', 'mpd_high')),
+                         (1, ['crates/mpd_high: has no README.md', 'crates/mpd_low/README.md:3: no gone in mpd_low']))
 
 
 class ReadLines(WithFolder):
