@@ -391,6 +391,10 @@ RUNS_ON = (
         ('{"cmd":"run-on"}', no('bad-field')), ('{"cmd":"run-on","max":1,"choice":0}', no('bad-field')), ('{"at":3,"cmd":"run-on","max":1}', stale(4)))),
     Dialogue('a run past the second of two candidates', TWO_RECEIVERS, (
         (RUN_ON, ran(7, 7, 'choice', 1)), ('{"cmd":"next","choice":1}', stepped(8, 'match 2.0 1.0', 2)), (RUN_ON, ran(11, 3, 'leaf', 3)))),
+    # rank 1's steps are undone, and rank 0 goes first: what was undone is gone
+    Dialogue('a run past what was undone', FIRST, (
+        (step('local 1'), deep(1, 1)), (step('local 1'), deep(2, 2)), ('{"cmd":"back","count":2}', deep(0, 3)),
+        ('{"cmd":"run-on","max":1}', ran(1, 1, 'max', 4)), ('{"cmd":"redo","count":1}', no('no-redo')))),
     Dialogue('a single candidate at the last depth', HELD_BACK, (
         ('{"cmd":"run-on","max":5}', ran(5, 5, 'full', 1)), (RUN, ran(5, 0, 'choice', 2)), (RUN_ON, ran(5, 0, 'full', 3))), limit=5),
     Dialogue('handles as breakpoints', CELLS, (
