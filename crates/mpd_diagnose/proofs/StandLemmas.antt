@@ -1,5 +1,5 @@
 -- Where ranks stand, and one rank more.
-use Rattle.std.proofs.Common.{◌≡◌, ◌×◌, ◌<◌, ◌+◌, ◌-◌, ℕ, suc, if◌then◌else◌, List, [], ◌∷◌, Option, Some, None, slice_get, sym, ap, ◌∙◌, arith, refl}
+use Rattle.std.proofs.Common.{◌≡◌, ◌<◌, ◌+◌, ◌-◌, ℕ, suc, if◌then◌else◌, List, [], ◌∷◌, Option, Some, None, slice_get, sym, ap, ◌∙◌, arith, refl}
 use Rattle.std.specs.List.{range_with_len}
 use Rattle.std.specs.Option.{unwrap_or}
 use Rattle.mpd_model.specs.declared.call.Activity.{Activity}
