@@ -74,8 +74,8 @@ class OfScripts(WithFolder):
 class Rehearsals(OfScripts):
     """What a rehearsal runs, leaves out and remembers, and the gate beside it."""
 
-    LAST = ('gate: rehearsed, but for proofs and tests of crates (rt ci), edits of 2 crates whose libraries are not built, '
-            'calls that are refused memory, wrong bodies that a run shows')
+    LAST = ('gate: rehearsed, but for calls that are refused memory, edits of 2 crates whose libraries are not built, '
+            'proofs and tests of crates (rt ci), wrong bodies that a run shows')
 
     def test_one_that_passes(self):
         status, lines = self.ran('run', '--rehearse', BROKEN='--broken')
