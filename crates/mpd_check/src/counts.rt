@@ -47,10 +47,10 @@ impl Tally {
     pub(crate) fn judged(self) -> Verdict
         ensures { result ≡ verdict_of false false self }
     {
-        if self.is_bad() {
-            return Verdict::Bad;
+        if !self.is_bad() {
+            return Verdict::Good;
         }
-        Verdict::Good
+        Verdict::Bad
     }
 
     /// Whether it is whole: there are no more runs than it lists, and none was cut.
