@@ -420,6 +420,37 @@ def sessions():
     yield Row('Shared::settle, code, SeatDesk', RACE, (RUN, '{"cmd":"state"}'), by_hand=no_state('4 1 0 2 true\n'), spares=True)
 
 
+# What `check` is asked by itself.
+CHECK_FLAGS = ('ends', 'outcomes', 'explain', 'group', 'until deadlock', 'witness', 'traps', 'complete', 'pieces')
+
+
+# Words of a command line, and what they are read as: of `check` the runs, the fuel, the split and the workers, and then what else was given.
+READ_OPTIONS = (
+    ('check a --runs 7 --workers 3', 'check a rendezvous 7 100000 1 3 runs'), ('trace a --mode b', 'trace a b false'),
+    ('diagnose a', 'diagnose a - false -'), ('diagnose --strict a --mode b', 'diagnose a b true -'), ('diagnose --modes 7 a', 'diagnose a - 7 false -'),
+    ('diagnose a --ranks 2-5', 'diagnose a - false 2-5'), ('diagnose a --ranks=', 'diagnose a - false '),
+    ('run a --ranks 16', 'run a rendezvous false\nranks 16'), ('run a --ranks 17', 'usage false 2'), ('c a --ranks 3', 'c a\nranks 3'),
+    ('trace a --echo', 'trace a rendezvous true'), ('debug a --echo --width 132', 'debug a rendezvous - - false true 132 false 24'),
+    ('debug a', 'debug a rendezvous - - false false 80 false 24'), ('dap a --mode b', 'dap a b - - false'),
+    ('dap a --choices 3 --ends', 'dap a rendezvous 3 - true'),
+    ('debug a --view --height 10', 'debug a rendezvous - - false false 80 true 10'), ('debug a --mode b --witness c', 'debug a b - c false false 80 false 24'),
+    ('debug a --choices 3 --ends', 'debug a rendezvous 3 - true false 80 false 24'),
+    ('serve a --port 80 --clients 2', 'serve a rendezvous 80 2 false'), ('serve a --wide --port 80 --clients 2', 'serve a rendezvous 80 2 true'), ('verify a b', 'verify a b rendezvous'),
+    ('verify a b --leaf 7', 'verify a b rendezvous 7'), ('words a --choices 3 --fuel 9', 'words a 3 rendezvous 9 false'),
+    ('words a --choices 3 --ends', 'words a 3 rendezvous 100000 true'), ('c a', 'c a'),
+    ('picture a', 'picture a rendezvous - - - 100000 false false false'), ('picture a --ends', 'picture a rendezvous - - - 100000 true false false'),
+    ('picture a --plain', 'picture a rendezvous - - - 100000 false true false'), ('picture a --large', 'picture a rendezvous - - - 100000 false false true'), ('page a --runs 7 --hide', 'page a rendezvous - - - 7 100000 100000 false true'),
+    ('picture a --choices 1 --witness 2 --words 3 --fuel 4 --mode 5', 'picture a 5 1 2 3 4 false false false'),
+    ('run a', 'run a rendezvous false'), ('run a --wide', 'run a rendezvous true'), *((f'check a --{flag}', f'check a rendezvous 1000 100000 1 4 {flag.split()[0]}') for flag in CHECK_FLAGS),
+    ('check a --modes 2 --runs 3 --fuel 4 --split 5 --workers 6', 'check a rendezvous 3 4 5 6 runs split modes 2'),
+    ('check a --states 7 --sample 8 --seed 9 --piece 10', 'check a rendezvous 1000 100000 1 4 states 7 sample 8 piece 10 seed 9'),
+    ('page a --choices 1 --witness 2 --words 3 --runs 4 --fuel 5 --states 6 --mode 7 --ends', 'page a 7 1 2 3 4 5 6 true false'),
+    ('debug a --choices 1 --witness 2 --mode 3 --width 40 --height 50', 'debug a 3 1 2 false false 40 false 50'),
+    ('dap a --choices 1 --witness 2', 'dap a rendezvous 1 2 false'), ('verify a b --mode c', 'verify a b c'),
+    ('words a --choices 1 --mode 2', 'words a 1 2 100000 false'), ('serve a --port 80 --clients 2 --mode b', 'serve a b 80 2 false'),
+    ('check a --runs 0', 'usage false 2'), ('fly', 'usage false 2'), ('--help', 'usage true 0'))
+
+
 def programs():
     words = '\n'.join((*ENDED, 'show', 'enabled', 'back', 'redo', 'goto 0', 'fly', 'show')) + '\n'
     yield Row('trace', MESSAGE, (), words)
@@ -433,23 +464,7 @@ def programs():
     yield Row('Divider::new', by_hand=no_state('made\n'))
     # the line ends behind byte 8, and three bytes of a script stand before it
     yield Row('Divider looks', argument='ab\n---\nlocal 0\n', by_hand=no_state('7 3\n'), spares=True)
-    for words, told in (('check a --runs 7 --workers 3', 'check a rendezvous 7 100000 1 3 false'), ('trace a --mode b', 'trace a b false'),
-                        ('diagnose a', 'diagnose a - false -'), ('diagnose --strict a --mode b', 'diagnose a b true -'), ('diagnose --modes 7 a', 'diagnose a - 7 false -'),
-                        ('diagnose a --ranks 2-5', 'diagnose a - false 2-5'), ('diagnose a --ranks=', 'diagnose a - false '),
-                        ('run a --ranks 16', 'run a rendezvous false\nranks 16'), ('run a --ranks 17', 'usage false 2'), ('c a --ranks 3', 'c a\nranks 3'),
-                        ('trace a --echo', 'trace a rendezvous true'), ('debug a --echo --width 132', 'debug a rendezvous - - false true 132 false 24'),
-                        ('debug a', 'debug a rendezvous - - false false 80 false 24'), ('dap a --mode b', 'dap a b - - false'),
-                        ('dap a --choices 3 --ends', 'dap a rendezvous 3 - true'),
-                        ('debug a --view --height 10', 'debug a rendezvous - - false false 80 true 10'), ('debug a --mode b --witness c', 'debug a b - c false false 80 false 24'),
-                        ('debug a --choices 3 --ends', 'debug a rendezvous 3 - true false 80 false 24'),
-                        ('serve a --port 80 --clients 2', 'serve a rendezvous 80 2 false'), ('serve a --wide --port 80 --clients 2', 'serve a rendezvous 80 2 true'), ('verify a b', 'verify a b rendezvous'),
-                        ('verify a b --leaf 7', 'verify a b rendezvous 7'), ('words a --choices 3 --fuel 9', 'words a 3 rendezvous 9 false'),
-                        ('words a --choices 3 --ends', 'words a 3 rendezvous 100000 true'), ('c a', 'c a'),
-                        ('picture a', 'picture a rendezvous - - - 100000 false false false'), ('picture a --ends', 'picture a rendezvous - - - 100000 true false false'),
-                        ('picture a --plain', 'picture a rendezvous - - - 100000 false true false'), ('picture a --large', 'picture a rendezvous - - - 100000 false false true'), ('page a --runs 7 --hide', 'page a rendezvous - - - 7 100000 100000 false true'),
-                        ('picture a --choices 1 --witness 2 --words 3 --fuel 4 --mode 5', 'picture a 5 1 2 3 4 false false false'),
-                        ('run a', 'run a rendezvous false'), ('run a --wide', 'run a rendezvous true'), ('check a --witness', 'check a rendezvous 1000 100000 1 4 true'),
-                        ('check a --runs 0', 'usage false 2'), ('fly', 'usage false 2'), ('--help', 'usage true 0')):
+    for words, told in READ_OPTIONS:
         yield Row('read_options', argument=words, by_hand=no_state(told + '\n'))
     for words, told in (('fly', 'false 2 3'), ('--help', 'true 0 3')):
         yield Row('UsageFault looks', argument=words, by_hand=no_state(told + '\n'), spares=True)

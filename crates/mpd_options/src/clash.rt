@@ -1,6 +1,6 @@
 //! Options of `check` that can't be combined (docs/FORMATS.md, "The command line").
 ghost use Rattle.std.specs.Prelude.{◌≡◌};
-ghost use Rattle.mpd_options.specs.Clashes.{beside_complete, beside_outcomes, beside_sample, clash_of, first_given, option_word, wants_traps};
+ghost use Rattle.mpd_options.specs.Clashes.{wants_traps};
 
 use crate::options::CheckOptions;
 
@@ -33,9 +33,7 @@ pub enum CheckOption {
 
 impl CheckOption {
     /// The option as it is written, with its hyphens.
-    pub fn word(self) -> &'static str
-        ensures { result.now ≡ option_word self }
-    {
+    pub fn word(self) -> &'static str {
         match self {
             CheckOption::Complete => "--complete",
             CheckOption::Ends => "--ends",
@@ -67,9 +65,7 @@ pub enum Clash {
 
 impl CheckOptions {
     /// The first option that was given and can't be combined with `--outcomes`.
-    fn beside_outcomes(self) -> Option<CheckOption>
-        ensures { result ≡ first_given (beside_outcomes self) }
-    {
+    fn beside_outcomes(self) -> Option<CheckOption> {
         if self.ends {
             return Some(CheckOption::Ends);
         }
@@ -98,9 +94,7 @@ impl CheckOptions {
     }
 
     /// The first option that was given and can't be combined with `--sample`.
-    fn beside_sample(self) -> Option<CheckOption>
-        ensures { result ≡ first_given (beside_sample self) }
-    {
+    fn beside_sample(self) -> Option<CheckOption> {
         if self.ends {
             return Some(CheckOption::Ends);
         }
@@ -124,9 +118,7 @@ impl CheckOptions {
 
     /// The first option that was given and can't be combined with `--complete`: what is asked of a
     /// piece, or of how many there are, tells nothing of all runs.
-    fn beside_complete(self) -> Option<CheckOption>
-        ensures { result ≡ first_given (beside_complete self) }
-    {
+    fn beside_complete(self) -> Option<CheckOption> {
         if self.piece.is_some() {
             return Some(CheckOption::Piece);
         }
@@ -155,9 +147,7 @@ impl CheckOptions {
     /// then what can't be combined with `--outcomes`, then that `--states` is alone, then what can't
     /// be combined with `--sample`, then that `--seed` is alone, then what can't be combined with
     /// `--complete`.
-    pub fn clash(self) -> Option<Clash>
-        ensures { result ≡ clash_of self }
-    {
+    pub fn clash(self) -> Option<Clash> {
         if self.traps && !self.witness {
             return Some(Clash::TrapsAlone);
         }

@@ -1,6 +1,4 @@
 //! What help says of the program and of its commands (docs/FORMATS.md, "The command line").
-ghost use Rattle.std.specs.Prelude.{◌≡◌};
-ghost use Rattle.mpd_options.specs.Help.{example_of};
 
 use crate::table::Tool;
 
@@ -149,10 +147,7 @@ pub(crate) fn about<'a>(tool: Tool) -> &'a str {
 }
 
 /// What help shows of it as an example.
-#[tactic(auto, unfolding(crate::specs::Help::example_of))]
-pub(crate) fn example<'a>(tool: Tool) -> &'a str
-    ensures { result.now ≡ example_of tool }
-{
+pub(crate) fn example<'a>(tool: Tool) -> &'a str {
     match tool {
         Tool::Diagnose => DIAGNOSE_EXAMPLE,
         Tool::Trace => TRACE_EXAMPLE,

@@ -4,9 +4,12 @@
 pub mod clash;
 pub mod command;
 pub mod help;
+pub mod number;
 pub mod options;
+pub mod read;
 pub mod table;
 
 pub use clash::{CheckOption, Clash};
-pub use options::{CheckOptions, Options, PageOptions, ToolOptions, UsageFault, read_options};
+pub use options::{CheckOptions, Options, PageOptions, ToolOptions, UsageFault};
+pub use read::read_options;
 pub use table::Tool;

@@ -1,45 +1,10 @@
-//! The table of the command line (docs/FORMATS.md, "The command line"): its commands, and what words after each can say something of.
-ghost use Rattle.std.specs.Prelude.{◌≡◌, ℕ};
-ghost use Rattle.mpd_options.specs.Table as spec;
-ghost use Rattle.mpd_options.specs.Table.{a_file, a_flag, an_option, called, item_in, item_of, names_of, unsaid_in};
+//! The table of the command line (docs/FORMATS.md, "The command line"): its commands, and what words
+//! after each can say something of.
 
-const MOST_RANKS: u64 = 16;
-
-const MOST_PORT: u64 = 65_535;
-
-const MOST_CLIENTS: u64 = 16;
-
-const MOST_MODES: u64 = 1_000;
-
-const MOST_RUNS: u64 = 65_536;
-
-const MOST_FUEL: u64 = 1_000_000;
-
-const MOST_SPLIT: u64 = 8;
-
-const MOST_WORKERS: u64 = 1_000;
-
-const MOST_STATES: u64 = 16_000_000;
-
-const MOST_SAMPLE: u64 = 65_536;
-
-const MOST_SEED: u64 = 18_446_744_073_709_551_615;
-
-const MOST_PIECE: u64 = 1_023;
-
-const MOST_LEAF: u64 = 67_108_863;
-
-const MOST_PAGED: u64 = 1_000;
-
-const MOST_VISITED: u64 = 16_000_000;
-
-const LEAST_WIDTH: u64 = 20;
-
-const MOST_WIDTH: u64 = 1_000;
-
-const LEAST_HEIGHT: u64 = 10;
-
-const MOST_HEIGHT: u64 = 1_000;
+use crate::number::{
+    CLIENTS, FUEL, HEIGHT, LEAF, MODES, Number, PAGED_RUNS, PAGED_STATES, PIECE, PORT, RANKS, RUNS,
+    SAMPLE, SEED, SPLIT, STATES, WIDTH, WORKERS,
+};
 
 /// A command.
 #[derive(Clone, Copy)]
@@ -70,7 +35,8 @@ pub enum Tool {
     Page,
 }
 
-/// A row of the table: a file, a flag or an option of some commands. What is asked by one of several has a row for each text of help.
+/// A row of the table: a file, a flag or an option of some commands. What is asked by one of several
+/// has a row for each text of help.
 #[derive(Clone, Copy)]
 pub(crate) enum Name {
     File,
@@ -129,21 +95,10 @@ pub(crate) enum Name {
 pub(crate) enum Values {
     /// Any word.
     AnyWord,
-    /// The numbers from the first to the second.
-    FromTo(u64, u64),
+    /// The numbers of a range.
+    Numbers(Number),
     /// `deadlock` alone.
     DeadlockAlone,
-}
-
-/// What it means that an option isn't there.
-#[derive(Clone, Copy)]
-pub(crate) enum Unsaid {
-    /// It is missing, which is a fault.
-    Missed,
-    /// Nothing.
-    Nothing,
-    /// The same as this value.
-    SameAs(&'static str),
 }
 
 /// What is known of an option with a value.
@@ -154,7 +109,8 @@ pub(crate) struct Valued {
     /// What stands for its value in help.
     pub(crate) shown: &'static str,
     pub(crate) values: Values,
-    pub(crate) unsaid: Unsaid,
+    /// Whether it must be there.
+    pub(crate) required: bool,
 }
 
 /// How words say something of it.
@@ -179,9 +135,7 @@ pub(crate) struct Item {
 }
 
 /// A file.
-fn file(id: &'static str, place: usize, help: &'static str) -> Item
-    ensures { item_in result ≡ a_file place id.entry.now }
-{
+fn file(id: &'static str, place: usize, help: &'static str) -> Item {
     Item {
         id,
         kind: Kind::File(place),
@@ -190,9 +144,7 @@ fn file(id: &'static str, place: usize, help: &'static str) -> Item
 }
 
 /// A flag.
-fn flag(id: &'static str, help: &'static str) -> Item
-    ensures { item_in result ≡ a_flag id.entry.now }
-{
+fn flag(id: &'static str, help: &'static str) -> Item {
     Item {
         id,
         kind: Kind::Flag,
@@ -200,39 +152,53 @@ fn flag(id: &'static str, help: &'static str) -> Item
     }
 }
 
-/// An option that is spelled as `clap` knows it.
-fn option(
-    id: &'static str,
-    shown: &'static str,
-    values: Values,
-    unsaid: Unsaid,
-    help: &'static str,
-) -> Item
-    ensures { item_in result ≡ an_option id.entry.now id.entry.now values (unsaid_in unsaid) }
-{
+/// An option that is spelled as `clap` knows it, and need not be there.
+fn option(id: &'static str, shown: &'static str, values: Values, help: &'static str) -> Item {
     Item {
         id,
         kind: Kind::Valued(Valued {
             spelling: id,
             shown,
             values,
-            unsaid,
+            required: false,
         }),
         help,
     }
 }
 
+/// An option whose value is any word.
+fn word(id: &'static str, shown: &'static str, help: &'static str) -> Item {
+    option(id, shown, Values::AnyWord, help)
+}
+
+/// An option whose value is a number.
+fn number(number: Number, shown: &'static str, help: &'static str) -> Item {
+    option(number.name, shown, Values::Numbers(number), help)
+}
+
+/// The same option, which must be there.
+fn required(item: Item) -> Item {
+    match item.kind {
+        Kind::Valued(option) => Item {
+            kind: Kind::Valued(Valued {
+                required: true,
+                ..option
+            }),
+            ..item
+        },
+        _ => item,
+    }
+}
+
 /// The file of a witness, whose option is spelled as the flag of `check` is.
-fn witness(help: &'static str) -> Item
-    ensures { item_in result ≡ item_of Name.LaidWitness }
-{
+fn witness(help: &'static str) -> Item {
     Item {
         id: "laid_witness",
         kind: Kind::Valued(Valued {
             spelling: "witness",
             shown: "WITNESS",
             values: Values::AnyWord,
-            unsaid: Unsaid::Nothing,
+            required: false,
         }),
         help,
     }
@@ -240,31 +206,23 @@ fn witness(help: &'static str) -> Item
 
 impl Name {
     /// Its row.
-    pub(crate) fn item(self) -> Item
-        ensures { item_in result ≡ item_of self }
-    {
+    pub(crate) fn item(self) -> Item {
         match self {
             Name::File => file("FILE", 1, "The script"),
             Name::WitnessFile => file("WITNESS", 2, "The file of the witness"),
-            Name::Mode => option(
+            Name::Mode => word(
                 "mode",
                 "M",
-                Values::AnyWord,
-                Unsaid::SameAs("rendezvous"),
-                "How standard sends behave: rendezvous, buffered, or slots:K with K from 0 to 65536",
+                "How standard sends behave: rendezvous, buffered, or slots:K with K from 0 to 65536 [default: rendezvous]",
             ),
-            Name::GivenMode => option(
+            Name::GivenMode => word(
                 "mode",
                 "M",
-                Values::AnyWord,
-                Unsaid::Nothing,
                 "How standard sends behave: rendezvous, which is usual, buffered, or slots:K with K from 0 to 65536",
             ),
-            Name::Ranks => option(
-                "ranks",
+            Name::Ranks => number(
+                RANKS,
                 "N",
-                Values::FromTo(1, MOST_RANKS),
-                Unsaid::Nothing,
                 "How many ranks run the script, 1 to 16, in place of the number in it",
             ),
             Name::RankSpan => Item {
@@ -273,62 +231,40 @@ impl Name {
                     spelling: "ranks",
                     shown: "N[-M]",
                     values: Values::AnyWord,
-                    unsaid: Unsaid::Nothing,
+                    required: false,
                 }),
                 help: "How many ranks run the script, 1 to 16, in place of the number in it; N-M tells each number from N to M by a line",
             },
-            Name::Modes => option(
-                "modes",
+            Name::Modes => number(
+                MODES,
                 "N",
-                Values::FromTo(0, MOST_MODES),
-                Unsaid::Nothing,
                 "Try rendezvous, slots:1 to slots:N and buffered in place of one mode, 0 to 1000",
             ),
-            Name::Port => option(
-                "port",
-                "P",
-                Values::FromTo(1, MOST_PORT),
-                Unsaid::Missed,
-                "The port that it listens on, 1 to 65535",
-            ),
-            Name::Clients => option(
-                "clients",
-                "N",
-                Values::FromTo(1, MOST_CLIENTS),
-                Unsaid::Missed,
-                "How many clients it answers, 1 to 16",
-            ),
+            Name::Port => required(number(PORT, "P", "The port that it listens on, 1 to 65535")),
+            Name::Clients => required(number(CLIENTS, "N", "How many clients it answers, 1 to 16")),
             Name::Wide => flag(
                 "wide",
                 "Answer more requests: run-on, hit, script, where, all, decision, steps, lines and explain, and more kinds and fields of break",
             ),
-            Name::Runs => option(
-                "runs",
+            Name::Runs => number(
+                RUNS,
                 "N",
-                Values::FromTo(1, MOST_RUNS),
-                Unsaid::Nothing,
                 "How many runs of each piece are tried at most, 1 to 65536 [default: 1000]",
             ),
-            Name::Fuel => option(
-                "fuel",
+            Name::Fuel => number(
+                FUEL,
                 "N",
-                Values::FromTo(1, MOST_FUEL),
-                Unsaid::SameAs("100000"),
-                "How many steps a run takes at most, 1 to 1000000",
+                "How many steps a run takes at most, 1 to 1000000 [default: 100000]",
             ),
-            Name::Split => option(
-                "split",
+            Name::Split => number(
+                SPLIT,
                 "K",
-                Values::FromTo(0, MOST_SPLIT),
-                Unsaid::Nothing,
                 "By how many choices the runs are cut into pieces, 0 to 8 [default: 1]",
             ),
-            Name::Workers => option(
-                "workers",
+            Name::Workers => number(
+                WORKERS,
                 "N",
-                Values::FromTo(0, MOST_WORKERS),
-                Unsaid::SameAs("4"),
-                "How many workers make the report, 1 to 16",
+                "How many workers make the report, 1 to 16 [default: 4]",
             ),
             Name::Ends => flag(
                 "ends",
@@ -342,25 +278,19 @@ impl Name {
                 "outcomes",
                 "Count the runs that come to each different end, without trying them one by one",
             ),
-            Name::States => option(
-                "states",
+            Name::States => number(
+                STATES,
                 "N",
-                Values::FromTo(1, MOST_STATES),
-                Unsaid::Nothing,
                 "How many states --outcomes keeps at most, 1 to 16000000 [default: 1000000]",
             ),
-            Name::Sample => option(
-                "sample",
+            Name::Sample => number(
+                SAMPLE,
                 "N",
-                Values::FromTo(1, MOST_SAMPLE),
-                Unsaid::Nothing,
                 "Draw the choices of N runs at random, 1 to 65536",
             ),
-            Name::Seed => option(
-                "seed",
+            Name::Seed => number(
+                SEED,
                 "S",
-                Values::FromTo(0, MOST_SEED),
-                Unsaid::Nothing,
                 "What --sample begins to draw with, 0 to 18446744073709551615 [default: 0]",
             ),
             Name::Explain => flag(
@@ -375,7 +305,6 @@ impl Name {
                 "until",
                 "END",
                 Values::DeadlockAlone,
-                Unsaid::Nothing,
                 "Stop at the first run that ends in a deadlock or a trap",
             ),
             Name::Witness => flag(
@@ -390,82 +319,62 @@ impl Name {
                 "complete",
                 "End with status 4 where nothing was found and not all was tried, with --modes in each mode; not beside --piece or --pieces",
             ),
-            Name::Piece => option(
-                "piece",
+            Name::Piece => number(
+                PIECE,
                 "N",
-                Values::FromTo(0, MOST_PIECE),
-                Unsaid::Nothing,
                 "Print the part of the report that piece N has, 0 to 1023",
             ),
             Name::Pieces => flag(
                 "pieces",
                 "Print how many pieces there are, and nothing else",
             ),
-            Name::Leaf => option(
-                "leaf",
+            Name::Leaf => number(
+                LEAF,
                 "N",
-                Values::FromTo(0, MOST_LEAF),
-                Unsaid::Nothing,
                 "Take the witness of leaf N of a whole report, 0 to 67108863",
             ),
-            Name::NeededChoices => option(
+            Name::NeededChoices => required(word(
                 "choices",
                 "C",
-                Values::AnyWord,
-                Unsaid::Missed,
                 "The choices of the run, numbers from 0 with spaces between them",
-            ),
-            Name::LaidChoices => option(
+            )),
+            Name::LaidChoices => word(
                 "choices",
                 "C",
-                Values::AnyWord,
-                Unsaid::Nothing,
                 "The choices of a run that is laid ahead, numbers from 0 with spaces between them",
             ),
             Name::LaidWitness => witness("A witness or a report, whose run is laid ahead"),
-            Name::DrawnChoices => option(
+            Name::DrawnChoices => word(
                 "choices",
                 "C",
-                Values::AnyWord,
-                Unsaid::Nothing,
                 "Draw the run with these choices, numbers from 0 with spaces between them",
             ),
             Name::DrawnWitness => witness("Draw the run of a witness or a report"),
-            Name::DrawnWords => option(
+            Name::DrawnWords => word(
                 "words",
                 "WORDS",
-                Values::AnyWord,
-                Unsaid::Nothing,
                 "Draw the run of a file of trace words, one a line",
             ),
-            Name::PagedChoices => option(
+            Name::PagedChoices => word(
                 "choices",
                 "C",
-                Values::AnyWord,
-                Unsaid::Nothing,
                 "Show the run with these choices, numbers from 0 with spaces between them",
             ),
             Name::PagedWitness => witness("Show the run of a witness or a report"),
-            Name::PagedWords => option(
+            Name::PagedWords => word(
                 "words",
                 "WORDS",
-                Values::AnyWord,
-                Unsaid::Nothing,
                 "Show the run of a file of trace words, one a line",
             ),
-            Name::PagedRuns => option(
-                "runs",
+            Name::PagedRuns => number(
+                PAGED_RUNS,
                 "N",
-                Values::FromTo(1, MOST_PAGED),
-                Unsaid::Nothing,
                 "Show the runs of the first N leaves that `check` lists, 1 to 1000",
             ),
-            Name::PagedStates => option(
-                "states",
+            Name::PagedStates => number(
+                PAGED_STATES,
                 "N",
-                Values::FromTo(1, MOST_VISITED),
-                Unsaid::SameAs("100000"),
-                "How many states each search of a page comes to at most, 1 to 16000000",
+                "How many states each search of a page comes to at most, 1 to 16000000 [default: 100000]",
             ),
             Name::PagedEnds => flag(
                 "ends",
@@ -479,23 +388,19 @@ impl Name {
                 "End with status 1 also where calls can be left over",
             ),
             Name::Echo => flag("echo", "Show each line that is read before its answer"),
-            Name::Width => option(
-                "width",
+            Name::Width => number(
+                WIDTH,
                 "N",
-                Values::FromTo(LEAST_WIDTH, MOST_WIDTH),
-                Unsaid::SameAs("80"),
-                "How many bytes a line of an answer has before it wraps, 20 to 1000",
+                "How many bytes a line of an answer has before it wraps, 20 to 1000 [default: 80]",
             ),
             Name::View => flag(
                 "view",
                 "Draw the screen anew after each word: the script, the ranks and the last answer",
             ),
-            Name::Height => option(
-                "height",
+            Name::Height => number(
+                HEIGHT,
                 "N",
-                Values::FromTo(LEAST_HEIGHT, MOST_HEIGHT),
-                Unsaid::SameAs("24"),
-                "How many lines the screen of --view has, 10 to 1000",
+                "How many lines the screen of --view has, 10 to 1000 [default: 24]",
             ),
         }
     }
@@ -519,9 +424,7 @@ pub(crate) const TOOLS: [Tool; 12] = [
 
 impl Tool {
     /// Its word.
-    pub(crate) fn word<'a>(self) -> &'a str
-        ensures { result.now ≡ called self }
-    {
+    pub(crate) fn word<'a>(self) -> &'a str {
         match self {
             Tool::Diagnose => "diagnose",
             Tool::Trace => "trace",
@@ -539,9 +442,7 @@ impl Tool {
     }
 
     /// What words after it can say something of, as its help lists it.
-    pub(crate) fn names(self) -> &'static [Name]
-        ensures { result.now ≡ names_of self }
-    {
+    pub(crate) fn names(self) -> &'static [Name] {
         match self {
             Tool::Diagnose => &[
                 Name::File,
@@ -649,15 +550,11 @@ impl Tool {
 }
 
 /// The command that a word names.
-pub(crate) fn tool_named(word: &str) -> Option<Tool>
-    ensures { result ≡ spec.tool_named word.now }
-{
-    let mut tools: &[Tool] = &TOOLS;
-    while let [tool, rest @ ..] = tools {
+pub(crate) fn tool_named(word: &str) -> Option<Tool> {
+    for tool in &TOOLS {
         if tool.word() == word {
             return Some(*tool);
         }
-        tools = rest;
     }
     None
 }

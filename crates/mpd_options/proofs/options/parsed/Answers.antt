@@ -1,7 +1,0 @@
-use Rattle.std.proofs.Common.{arith, ◌∙◌}
-use Rattle.mpd_options.specs.Numbers.{most_usize}
-use Rattle.mpd_options.proofs.NumberReads.{parsed_number}
-use Rattle.mpd_options.proofs.options.parsed.Goals as goal
-
-pub returns : goal.returns
-returns c = c.ok.ensures.value ∙ parsed_number 64 most_usize c.args.text.now c.parse-read.result (omega arith) (omega arith) c.parse-read.ensures.value.0
