@@ -7,27 +7,39 @@
        mpdrec 1 rank 0 size 4 program PATH
        module N PATH                       a file of code, for places
        comm NAME 0 2 ..                    a communicator, and the numbers that its ranks have in the world
-       > N CALL field=value .. @PLACE      before call N of this rank
-       < N [done=ID[:SOURCE:TAG:BYTES] ..]    after it: each request that it completed, - for its own receive
-       ? N CALL @PLACE                     a look that found nothing; the next call will be N
+       named NAME TEXT                     the name that the program gives it, and
+       freed NAME                          that it is freed
+       > N CALL field=value .. @PLACE      before call N of this rank; a rank, root or tag that isn't there is absent:NUMBER
+       < N [done=ID[:SOURCE:TAG:BYTES] ..] [changed=ID ..] [error=CODE]    after it: each request that it completed, - for
+                                           its own receive, sends whose buffer was changed before, and the error that it gave
+       ? N CALL first=F last=L times=T @PLACE    looks of one place that found nothing: of all such looks since the last call
+                                           the numbers of the first and the last, and how many they are; the next call is N
+       changed ID                          what request ID still sends was changed since the last call
        ! WHY @PLACE                        what the record doesn't have, so that it is of no use
+       end exit STATUS @PLACE              the process ends by itself, with no MPI_Finalize or with a status that isn't 0
+       end signal NUMBER @PLACE            it ends by that signal
    A place is one to three frames as MODULE:OFFSET, or =FILE:LINE in Python. The file is mapped, so it is whole up to
    the call in which a rank stands, even if that rank is killed at once.
 
    MPDREC_FORCE names a file of lines "RANK CALL SOURCE TAG": this call then takes a message of that source and tag
-   only. With MPDREC_SYNCHRONOUS each standard send is a synchronous one. Calls of one thread are recorded. */
+   only. With MPDREC_SYNCHRONOUS each standard send is a synchronous one. Calls of one thread are recorded. A process that
+   ends before MPI_Init leaves a file early.N in place of rank.N, if its starter tells its number. */
 #define _GNU_SOURCE
 #include <mpi.h>
 #include <dlfcn.h>
 #include <execinfo.h>
 #include <fcntl.h>
+#include <limits.h>
 #include <pthread.h>
+#include <signal.h>
 #include <stdarg.h>
 #include <stdint.h>
 #include <stdio.h>
 #include <stdlib.h>
 #include <string.h>
 #include <sys/mman.h>
+#include <sys/uio.h>
+#include <ucontext.h>
 #include <unistd.h>
 
 #define MOST_BYTES ((size_t)64 << 20)
@@ -55,13 +67,16 @@ static __thread int inside;             /* in a call of the library, which may m
 static char *record;                    /* the file, mapped whole; it has holes where nothing is written yet */
 static size_t used;
 static int file = -1;
+static int is_closed;                   /* it has its length, and what comes is written after it */
 static char line[1 << 20];              /* the line that is being made */
 static size_t line_length;
 
 static void keep(const char *text, size_t length)
 {
     static const char full[] = "! more-than-64-MB\n";
-    if (record == NULL || used == MOST_BYTES)
+    if (is_closed && pwrite(file, text, length, used) == (ssize_t)length)
+        used += length;
+    if (is_closed || record == NULL || used == MOST_BYTES)
         return;
     if (used + length + sizeof full <= MOST_BYTES) {
         memcpy(record + used, text, length);
@@ -107,6 +122,7 @@ static int module_count;
 
 static int module_searched(void *address, uintptr_t *offset)
 {
+    static const char *const libraries[] = { "libmpi", "libc.", "librecord", "libgfortran", "libopen-", "libpthread", "ld-linux" };
     Dl_info found;
     if (!dladdr(address, &found) || found.dli_fbase == NULL)
         return -1;
@@ -118,7 +134,8 @@ static int module_searched(void *address, uintptr_t *offset)
         return -1;
     const char *slash = strrchr(found.dli_fname, '/'), *name = slash ? slash + 1 : found.dli_fname;
     modules[module_count].base = found.dli_fbase;
-    modules[module_count].is_library = !strncmp(name, "libmpi", 6) || !strncmp(name, "libc.", 5);
+    for (size_t i = 0; i < sizeof libraries / sizeof *libraries; i++)
+        modules[module_count].is_library |= !strncmp(name, libraries[i], strlen(libraries[i]));
     char text[5000], *path = realpath(found.dli_fname, NULL);
     int length = snprintf(text, sizeof text, "module %d %s\n", module_count, path ? path : found.dli_fname);
     free(path);
@@ -178,19 +195,20 @@ static int put_python_place(void)
     return text != NULL;
 }
 
-/* The place of a call, by the address that it goes back to: frames of the MPI library and of libc are left out. */
-static void put_place(void *caller)
+/* The frames from the address on that a call goes back to, or at which a signal came; from the innermost if there is none.
+   Frames of the MPI library and of libc are left out. */
+static void put_frames(void *address, int is_signal)
 {
-    void *frames[32];
-    if (put_python_place())
-        return;
-    int count = backtrace(frames, 32), i = 0;
-    while (i < count && frames[i] != caller)
+    void *frames[48];
+    int count = backtrace(frames, 48), i = 0;
+    while (address && i < count && frames[i] != address)
         i++;
     if (i == count) {
-        frames[0] = caller;
+        frames[0] = address;
         i = 0, count = 1;
     }
+    if (is_signal)
+        frames[i] = (char *)frames[i] + 1;      /* it is in this instruction, and no call before it */
     put(" @");
     for (int shown = 0; i < count && shown < FRAMES; i++) {
         uintptr_t offset;
@@ -198,6 +216,12 @@ static void put_place(void *caller)
         if (module >= 0 && !modules[module].is_library)
             put("%s%d:%lx", shown++ ? "," : "", module, (unsigned long)offset);
     }
+}
+
+static void put_place(void *caller)
+{
+    if (!put_python_place())
+        put_frames(caller, 0);
 }
 
 /* ---- communicators ---- */
@@ -213,7 +237,7 @@ static struct communicator *communicators;      /* the newest first: a handle ma
 
 static struct communicator *communicator_of(MPI_Comm handle)
 {
-    struct communicator *c = communicators;
+    struct communicator *c = handle == MPI_COMM_NULL ? NULL : communicators;
     while (c && c->handle != handle)
         c = c->next;
     return c;
@@ -256,18 +280,33 @@ static int in_world(const struct communicator *c, int rank)
 
 /* ---- what calls are told by ---- */
 
-static void put_pattern(const char *key, int value, int any)
+static const char *name_of(const struct communicator *c, MPI_Comm handle)
 {
-    put(value == any ? " %s=*" : " %s=%d", key, value);
+    return c ? c->name : handle == MPI_COMM_NULL ? "null" : "?";
 }
 
-static void put_rank(const char *key, const struct communicator *c, int rank)
+/* A tag, or any where a receive may name any. A library takes no other number below 0. */
+static void put_tag(const char *key, int tag, int is_receive)
+{
+    if (is_receive && tag == MPI_ANY_TAG)
+        put(" %s=*", key);
+    else
+        put(tag < 0 ? " %s=absent:%d" : " %s=%d", key, tag);
+}
+
+static void put_rank(const char *key, const struct communicator *c, int rank, int is_receive)
 {
     if (rank == MPI_PROC_NULL)
         put(" %s=none", key);
+    else if (is_receive && rank == MPI_ANY_SOURCE)
+        put(" %s=*", key);
+    else if (in_world(c, rank) < 0)
+        put(" %s=absent:%d", key, rank);
     else
-        put_pattern(key, rank == MPI_ANY_SOURCE ? rank : in_world(c, rank), MPI_ANY_SOURCE);
+        put(" %s=%d", key, in_world(c, rank));
 }
+
+#include "signatures.h"
 
 static long bytes_of(int count, MPI_Datatype type)
 {
@@ -277,8 +316,11 @@ static long bytes_of(int count, MPI_Datatype type)
     return (long)size * count;
 }
 
+static void look_at_sent(void);
+
 static int begin(const char *name)
 {
+    look_at_sent();
     put("> %d %s", calls, name);
     return calls++;
 }
@@ -289,32 +331,54 @@ static void begun(void *caller)
     end_line();
 }
 
+static void put_error(int error)
+{
+    const struct { int class; const char *name; } known[] = {
+        { MPI_ERR_RANK, "RANK" }, { MPI_ERR_TAG, "TAG" }, { MPI_ERR_COMM, "COMM" }, { MPI_ERR_ROOT, "ROOT" }, { MPI_ERR_COUNT, "COUNT" },
+        { MPI_ERR_TYPE, "TYPE" }, { MPI_ERR_OP, "OP" }, { MPI_ERR_BUFFER, "BUFFER" }, { MPI_ERR_REQUEST, "REQUEST" },
+        { MPI_ERR_TRUNCATE, "TRUNCATE" }, { MPI_ERR_ARG, "ARG" }, { MPI_ERR_IN_STATUS, "IN_STATUS" }, { MPI_ERR_OTHER, "OTHER" } };
+    int class = 0;
+    if (error == MPI_SUCCESS)
+        return;
+    PMPI_Error_class(error, &class);
+    for (size_t i = 0; i < sizeof known / sizeof *known; i++)
+        if (known[i].class == class) {
+            put(" error=MPI_ERR_%s", known[i].name);
+            return;
+        }
+    put(" error=%d", class);
+}
+
 static int ended(int call, int error)
 {
     put("< %d", call);
+    put_error(error);
     end_line();
     return error;
 }
 
 /* What a send or a receive names. */
-struct message { int count; MPI_Datatype type; int rank, tag; MPI_Comm comm; };
+struct message { const void *buffer; int count; MPI_Datatype type; int rank, tag; MPI_Comm comm; };
 
 static void put_send(const char *tag_key, const struct message *m)
 {
     const struct communicator *c = communicator_of(m->comm);
-    put_rank("to", c, m->rank);
-    put_pattern(tag_key, m->tag, MPI_ANY_TAG);
-    put(" bytes=%ld comm=%s", bytes_of(m->count, m->type), c ? c->name : "?");
+    put_rank("to", c, m->rank, 0);
+    put_tag(tag_key, m->tag, 0);
+    put(" bytes=%ld comm=%s", bytes_of(m->count, m->type), name_of(c, m->comm));
+    put_types("out", m->count, m->type);
 }
 
 static void put_receive(const struct message *m)
 {
     const struct communicator *c = communicator_of(m->comm);
-    put_rank("from", c, m->rank);
-    put_pattern("tag", m->tag, MPI_ANY_TAG);
+    put_rank("from", c, m->rank, 1);
+    put_tag("tag", m->tag, 1);
     if (m->count >= 0)
         put(" room=%ld", bytes_of(m->count, m->type));
-    put(" comm=%s", c ? c->name : "?");
+    put(" comm=%s", name_of(c, m->comm));
+    if (m->count >= 0)
+        put_types("in", m->count, m->type);
 }
 
 /* What a receive got. */
@@ -362,11 +426,108 @@ static void force(int call, MPI_Comm comm, int *from, int *tag)
 
 /* ---- begin and end of a program ---- */
 
+static int is_finalized;
+static pid_t process;                   /* the process that is recorded, and not one that it starts */
+
+static void put_program(void)
+{
+    char program[4096];
+    ssize_t length = readlink("/proc/self/exe", program, sizeof program - 1);
+    put(" program %.*s", (int)(length > 0 ? length : 0), program);
+    end_line();
+}
+
+/* Opens a file in place of the record of a process that ends before MPI_Init. */
+static int open_early(void)
+{
+    static const char *const names[] = { "PMI_RANK", "OMPI_COMM_WORLD_RANK", "PMIX_RANK" };
+    const char *folder = getenv("MPDREC_FOLDER"), *rank = NULL;
+    char path[4096];
+    for (size_t i = 0; i < sizeof names / sizeof *names && rank == NULL; i++)
+        rank = getenv(names[i]);
+    if (folder == NULL || rank == NULL)
+        return 0;
+    snprintf(path, sizeof path, "%s/early.%d", folder, atoi(rank));
+    file = open(path, O_RDWR | O_CREAT | O_TRUNC | O_CLOEXEC, 0666);
+    used = 0;
+    is_closed = 1;
+    put("mpdrec 1 rank %d size 0", atoi(rank));
+    put_program();
+    return file >= 0;
+}
+
+/* Tells how the process ends, and where. */
+static void put_end(const char *how, int number, void *at)
+{
+    static int told;
+    if (told++ || getpid() != process || (record == NULL && !open_early()))
+        return;
+    line_length = 0;
+    put("end %s %d", how, number);
+    put_frames(at, at != NULL);
+    end_line();
+}
+
+static void at_exit(int status, void *nothing)
+{
+    (void)nothing;
+    if (status != 0 || (record != NULL && !is_finalized))
+        put_end("exit", status, NULL);
+}
+
+static const int FATAL[] = { SIGSEGV, SIGBUS, SIGFPE, SIGILL, SIGABRT };
+#define FATALS (sizeof FATAL / sizeof *FATAL)
+static struct sigaction before[FATALS];     /* what was done at such a signal before the recorder's own */
+
+/* A signal ends the process: that is told, and what would be done without the recorder is done. */
+static void at_signal(int number, siginfo_t *told, void *context)
+{
+    void *at = NULL;
+#if defined __x86_64__
+    at = (void *)((ucontext_t *)context)->uc_mcontext.gregs[REG_RIP];
+#elif defined __aarch64__
+    at = (void *)((ucontext_t *)context)->uc_mcontext.pc;
+#endif
+    for (size_t i = 0; i < FATALS; i++)
+        if (FATAL[i] == number)
+            sigaction(number, &before[i], NULL);
+    put_end("signal", number, at);
+    if (told->si_code <= 0)
+        raise(number);
+}
+
+static void guard(void)
+{
+    struct sigaction own = { .sa_sigaction = at_signal, .sa_flags = SA_SIGINFO | SA_NODEFER };
+    for (size_t i = 0; i < FATALS; i++)
+        sigaction(FATAL[i], &own, &before[i]);
+}
+
+/* While MPI_Init runs the library may set handlers of its own. */
+static void leave(void)
+{
+    for (size_t i = 0; i < FATALS; i++)
+        sigaction(FATAL[i], &before[i], NULL);
+}
+
+__attribute__((constructor)) static void load(void)
+{
+    void *frames[4];
+    process = getpid();
+    if (getenv("MPDREC_FOLDER") == NULL)
+        return;
+    backtrace(frames, 4);               /* loads what it needs, which a handler can't */
+    on_exit(at_exit, NULL);
+    guard();
+}
+
 static void start(void)
 {
     const char *folder = getenv("MPDREC_FOLDER");
-    char path[4096], program[4096];
+    char path[4096];
     int size;
+    if (folder)
+        guard();
     owner = pthread_self();
     PMPI_Comm_rank(MPI_COMM_WORLD, &me);
     PMPI_Comm_size(MPI_COMM_WORLD, &size);
@@ -376,14 +537,18 @@ static void start(void)
     file = folder ? open(path, O_RDWR | O_CREAT | O_TRUNC | O_CLOEXEC, 0666) : -1;
     record = ftruncate(file, MOST_BYTES) ? NULL : mmap(NULL, MOST_BYTES, PROT_READ | PROT_WRITE, MAP_SHARED, file, 0);
     record = record == MAP_FAILED ? NULL : record;
-    ssize_t length = readlink("/proc/self/exe", program, sizeof program - 1);
-    put("mpdrec 1 rank %d size %d program %.*s", me, size, (int)(length > 0 ? length : 0), program);
-    end_line();
+    put("mpdrec 1 rank %d size %d", me, size);
+    put_program();
     add_communicator(MPI_COMM_WORLD, NULL, "world");
     add_communicator(MPI_COMM_SELF, NULL, "self");
 }
 
-#define STARTS(name, parameters, arguments) NAMED(name, parameters) { int error = MADE(name, arguments); start(); return error; }
+#define STARTS(name, parameters, arguments) NAMED(name, parameters) { \
+    if (getenv("MPDREC_FOLDER")) \
+        leave(); \
+    int error = MADE(name, arguments); \
+    start(); \
+    return error; }
 STARTS(Init, (int *count, char ***words), (count, words))
 STARTS(Init_thread, (int *count, char ***words, int required, int *provided), (count, words, required, provided))
 
@@ -392,8 +557,8 @@ NAMED(Finalize, (void))
     int call = begin("Finalize");
     begun(HERE);
     int error = ended(call, MADE(Finalize, ()));
-    if (record == NULL || ftruncate(file, used) != 0)
-        record = NULL;
+    is_finalized = 1;
+    is_closed = record != NULL && ftruncate(file, used) == 0;
     return error;
 }
 
@@ -412,6 +577,7 @@ struct request {
     const struct communicator *comm;
     const char *persistent;             /* what a start of it is; NULL if it is not persistent */
     struct message message;             /* of a persistent one */
+    struct sent sent;                   /* what a send reads till it is complete */
 };
 static struct request *requests;
 static int request_count, request_room, next_id;
@@ -425,8 +591,28 @@ static int add_request(MPI_Request *place, int is_receive, const struct communic
         request_room = 2 * request_room + 64;
         requests = realloc(requests, request_room * sizeof *requests);
     }
-    requests[i] = (struct request){ .place = place, .id = next_id++, .is_live = 1, .is_receive = is_receive, .comm = c };
+    requests[i] = (struct request){ .place = place, .id = next_id++, .is_live = 1, .is_receive = is_receive, .comm = c,
+                                    .sent = { .type = MPI_DATATYPE_NULL } };
     return i;
+}
+
+static void drop_request(int i)
+{
+    let_go(&requests[i].sent);
+    requests[i].is_live = 0;
+}
+
+/* Before a call, whether sends that are under way still send what they did; of all of them if they are small. */
+static void look_at_sent(void)
+{
+    size_t bytes = 0;
+    for (int i = 0; i < request_count; i++)
+        bytes += requests[i].is_live && requests[i].sent.has_sum ? requests[i].sent.bytes : 0;
+    for (int i = 0; i < request_count && bytes > 0 && bytes <= FEW_BYTES; i++)
+        if (requests[i].is_live && has_changed(&requests[i].sent)) {
+            put("changed %d", requests[i].id);
+            end_line();
+        }
 }
 
 /* The request of a handle: the newest at this place, else the oldest. MPICH gives one handle to all small sends that
@@ -452,6 +638,9 @@ static void complete(int i, const MPI_Status *status)
     put(" done=%d", requests[i].id);
     if (requests[i].is_receive)
         put_message(requests[i].comm, status);
+    if (has_changed(&requests[i].sent))
+        put(" changed=%d", requests[i].id);
+    let_go(&requests[i].sent);
     if (requests[i].persistent)
         requests[i].id = -1;
     else
@@ -477,6 +666,8 @@ static int begin_message(const char *name, const struct message *out, const stru
 /* A call that has a request is made. */
 static int issued(int call, int request, MPI_Request handle, int error)
 {
+    if (error != MPI_SUCCESS)
+        drop_request(request);
     requests[request].handle = handle;
     return ended(call, error);
 }
@@ -484,30 +675,82 @@ static int issued(int call, int request, MPI_Request handle, int error)
 /* A message is received, or found by a probe. */
 static int found(int call, MPI_Comm comm, const MPI_Status *status, int error)
 {
-    put("< %d done=-", call);
-    put_message(communicator_of(comm), status);
+    int class = MPI_SUCCESS;
+    if (error != MPI_SUCCESS)
+        PMPI_Error_class(error, &class);
+    put("< %d", call);
+    if (class == MPI_SUCCESS || class == MPI_ERR_TRUNCATE) {
+        put(" done=-");
+        put_message(communicator_of(comm), status);
+    }
+    put_error(error);
     end_line();
     return error;
 }
 
-/* A look that found nothing: a row of these at one place is one line. */
+/* ---- looks that found nothing: counted, and not kept ---- */
+
+#define DIGITS 10
+#define MOST_LOOKS 64
+/* The places of looks since the last call; of each where its line has its numbers, which are written anew. */
+static struct look { const char *name; void *caller; char *last, *times; long count; } looks[MOST_LOOKS];
+static int look_count, looks_before = -1;
+static long look_number;
+
+static void put_number(char *digits, long number)
+{
+    for (int i = DIGITS; i-- > 0; number /= 10)
+        digits[i] = '0' + number % 10;
+}
+
+/* The line of a place that is looked at for the first time since the last call. */
+static void add_look(struct look *look)
+{
+    size_t last, times, start;
+    put("? %d %s first=%ld last=", calls, look->name, look_number);
+    last = line_length;
+    put("%0*ld times=", DIGITS, look_number);
+    times = line_length;
+    put("%0*d", DIGITS, 1);
+    put_place(look->caller);
+    start = used;
+    end_line();
+    if (record != NULL && used < MOST_BYTES) {
+        look->last = record + start + last;
+        look->times = record + start + times;
+    }
+}
+
 static void looked(const char *name, void *caller)
 {
-    static void *last;
-    static int last_call = -1;
-    if (last == caller && last_call == calls)
-        return;
-    last = caller;
-    last_call = calls;
-    put("? %d %s", calls, name);
-    begun(caller);
+    int i = 0;
+    if (looks_before != calls) {
+        looks_before = calls;
+        look_count = 0;
+        look_number = 0;
+    }
+    look_number++;
+    while (i < look_count && (looks[i].caller != caller || looks[i].name != name))
+        i++;
+    if (i == MOST_LOOKS)
+        i--;
+    if (i == look_count) {
+        look_count++;
+        looks[i] = (struct look){ .name = name, .caller = caller };
+        add_look(&looks[i]);
+    }
+    looks[i].count++;
+    if (looks[i].last) {
+        put_number(looks[i].last, look_number);
+        put_number(looks[i].times, looks[i].count);
+    }
 }
 
 struct probing { const char *name; int from, tag; MPI_Comm comm; void *caller; };
 
 static int begin_probe(struct probing p)
 {
-    return begin_message(p.name, NULL, &(struct message){ -1, MPI_BYTE, p.from, p.tag, p.comm }, -1, p.caller);
+    return begin_message(p.name, NULL, &(struct message){ NULL, -1, MPI_BYTE, p.from, p.tag, p.comm }, -1, p.caller);
 }
 
 /* A probe, which looks only if it has a flag. One with a message handle takes the message, so it is a receive. */
@@ -568,11 +811,13 @@ static int made_wait(const struct waiting *w, int *is_done, int *done, int *inde
 /* A wait is written before its call, a test only after one that found something. */
 static int waited(struct waiting w, int *flag, int *done, int *indexes, MPI_Status *statuses)
 {
-    int call = -1, is_done, many;
+    int call = -1, is_done, many, holds = 0;
     int *which = calloc(w.count + 1, sizeof *which);
     MPI_Status *own = calloc(w.count + 1, sizeof *own);
-    for (int i = 0; i < w.count; i++)
+    for (int i = 0; i < w.count; i++) {
         which[i] = request_of(w.list[i], &w.list[i]);
+        holds |= which[i] >= 0 && requests[which[i]].id >= 0;
+    }
     if (!w.is_test)
         call = begin_wait(&w, which);
     int error = made_wait(&w, &is_done, &many, indexes, own);
@@ -580,18 +825,19 @@ static int waited(struct waiting w, int *flag, int *done, int *indexes, MPI_Stat
         *flag = is_done;
     if (done)
         *done = many;
-    if (is_done) {
+    if (is_done && (holds || !w.is_test)) {
         if (w.is_test)
             call = begin_wait(&w, which);
         put("< %d", call);
         for (int i = 0; i < many && many != MPI_UNDEFINED; i++)
             complete(which[w.kind <= ALL ? i : indexes[i]], &own[i]);
+        put_error(error);
         end_line();
-        if (statuses && many != MPI_UNDEFINED)
-            memcpy(statuses, own, (w.kind == ANY ? 1 : many) * sizeof *own);
     } else {
         looked(w.name, w.caller);
     }
+    if (is_done && statuses && many != MPI_UNDEFINED)
+        memcpy(statuses, own, (w.kind == ANY ? 1 : many) * sizeof *own);
     free(own);
     free(which);
     return error;
@@ -603,7 +849,7 @@ static int freed(void *caller, MPI_Request *request)
     put(" request=%d", i < 0 ? -1 : requests[i].id);
     begun(caller);
     if (i >= 0)
-        requests[i].is_live = 0;
+        drop_request(i);
     return ended(call, MADE(Request_free, (request)));
 }
 
@@ -626,26 +872,90 @@ static void started(void *caller, MPI_Request *request)
         return;
     requests[i].id = next_id++;
     const struct message *m = &requests[i].message;
+    if (!requests[i].is_receive)
+        requests[i].sent = sent_of(m->buffer, m->count, m->type);
     ended(begin_message(requests[i].persistent, requests[i].is_receive ? NULL : m, requests[i].is_receive ? m : NULL, i, caller), 0);
 }
 
-/* ---- collectives: their name, root and communicator; what they carry is of no account ---- */
+/* ---- collectives: their name, root, communicator and operation, and what they carry ---- */
 
-static int begin_collective(const char *name, int root, MPI_Comm comm, int request, void *caller)
+#define NO_ROOT INT_MIN
+
+/* The line of a collective begins; what it carries, and its place, follow. */
+static int begin_collective(const char *name, int root, MPI_Comm comm, int request)
 {
     const struct communicator *c = communicator_of(comm);
     int call = begin(name);
-    put(" collective=1 root=%d comm=%s", root < 0 ? -1 : in_world(c, root), c ? c->name : "?");
+    put(" collective=1");
+    if (root == NO_ROOT)
+        put(" root=-1");
+    else
+        put_rank("root", c, root, 0);
+    put(" comm=%s", name_of(c, comm));
     if (request >= 0)
         put(" request=%d", requests[request].id);
-    begun(caller);
     return call;
+}
+
+static int is_me(MPI_Comm comm, int rank)
+{
+    return in_world(communicator_of(comm), rank) == me;
+}
+
+/* What a rank sends or takes, where that is not what lies there already. */
+static void put_part(const char *key, const void *buffer, int count, MPI_Datatype type)
+{
+    if (buffer != MPI_IN_PLACE)
+        put_types(key, count, type);
+}
+
+static void put_reduced(MPI_Op op, int count, MPI_Datatype type)
+{
+    put_operation(op);
+    put_types("out", count, type);
+}
+
+static void put_gathered(int is_root, const void *b, int n, MPI_Datatype t, int m, MPI_Datatype u)
+{
+    put_part("out", b, n, t);
+    if (is_root)
+        put_types("in", m, u);
+}
+
+static void put_scattered(int is_root, int n, MPI_Datatype t, const void *o, int m, MPI_Datatype u)
+{
+    if (is_root)
+        put_types("out", n, t);
+    put_part("in", o, m, u);
+}
+
+static int freed_communicator(MPI_Comm *handle)
+{
+    struct communicator *c = communicator_of(*handle);
+    if (c) {
+        put("freed %s", c->name);
+        end_line();
+        c->handle = MPI_COMM_NULL;
+    }
+    return 0;
+}
+
+static int named_communicator(MPI_Comm handle, const char *name)
+{
+    const struct communicator *c = communicator_of(handle);
+    if (c && name[0] != '\0') {
+        put("named %s %.60s", c->name, name);
+        end_line();
+    }
+    return 0;
 }
 
 static int made_communicator(int call, int error, MPI_Comm parent, const MPI_Comm *made)
 {
     struct communicator *c = communicator_of(parent);
     ended(call, error);
+    if (error != MPI_SUCCESS)
+        return error;
     add_communicator(*made, c, "?");
     if (c)
         c->children++;
@@ -662,14 +972,15 @@ static void refuse(const char *name, void *caller)
 
 #define PASS(name, arguments) if (is_other_thread() || inside) return MADE(name, arguments)
 #define ROW(name, parameters, arguments, recorded) NAMED(name, parameters) { PASS(name, arguments); return recorded; }
-#define OF(count, type, rank, tag) &(struct message){ count, type, rank, tag, c }
+#define OF(buffer, count, type, rank, tag) &(struct message){ buffer, count, type, rank, tag, c }
 #define SEND(name, other) NAMED(name, (V *b, int n, T t, int q, int tag, MPI_Comm c)) { \
     PASS(name, (b, n, t, q, tag, c)); \
-    int call = begin_message(#name, OF(n, t, q, tag), NULL, -1, HERE); \
+    int call = begin_message(#name, OF(b, n, t, q, tag), NULL, -1, HERE); \
     return ended(call, synchronous ? MADE(other, (b, n, t, q, tag, c)) : MADE(name, (b, n, t, q, tag, c))); }
 #define ISEND(name, other) NAMED(name, (V *b, int n, T t, int q, int tag, MPI_Comm c, R *r)) { \
     PASS(name, (b, n, t, q, tag, c, r)); \
-    int i = add_request(r, 0, communicator_of(c)), call = begin_message(#name, OF(n, t, q, tag), NULL, i, HERE); \
+    int i = add_request(r, 0, communicator_of(c)), call = begin_message(#name, OF(b, n, t, q, tag), NULL, i, HERE); \
+    requests[i].sent = sent_of(b, n, t); \
     int error = synchronous ? MADE(other, (b, n, t, q, tag, c, r)) : MADE(name, (b, n, t, q, tag, c, r)); \
     return issued(call, i, *r, error); }
 #define RECEIVE(name, parameters, arguments, out, in) NAMED(name, parameters) { \
@@ -681,23 +992,28 @@ static void refuse(const char *name, void *caller)
     int error = MADE(name, arguments); \
     return found(call, c, s, error); }
 #define PERSISTENT(name, as, CONST) ROW(name, (CONST void *b, int n, T t, int q, int tag, MPI_Comm c, R *r), \
-    (b, n, t, q, tag, c, r), made_persistent(as, *OF(n, t, q, tag), r, MADE(name, (b, n, t, q, tag, c, r))))
+    (b, n, t, q, tag, c, r), made_persistent(as, *OF(b, n, t, q, tag), r, MADE(name, (b, n, t, q, tag, c, r))))
 #define PROBING(name) (struct probing){ #name, from, tag, c, HERE }
 #define WAITING(name, kind, is_test, count) (struct waiting){ #name, kind, is_test, count, r, HERE }
 #define ONE(status) ((status) == MPI_STATUS_IGNORE ? NULL : (status))
 #define MANY(statuses) ((statuses) == MPI_STATUSES_IGNORE ? NULL : (statuses))
-#define COLLECTIVE(name, root, parameters, arguments) NAMED(name, parameters) { \
+#define COLLECTIVE(name, root, parameters, arguments, carried) NAMED(name, parameters) { \
     PASS(name, arguments); \
-    int call = begin_collective(#name, root, c, -1, HERE); \
+    int call = begin_collective(#name, root, c, -1); \
+    carried; \
+    begun(HERE); \
     return ended(call, MADE(name, arguments)); }
-#define ICOLLECTIVE(name, root, parameters, arguments) NAMED(name, parameters) { \
+#define ICOLLECTIVE(name, root, parameters, arguments, carried) NAMED(name, parameters) { \
     PASS(name, arguments); \
-    int i = add_request(r, 0, communicator_of(c)), call = begin_collective(#name, root, c, i, HERE); \
+    int i = add_request(r, 0, communicator_of(c)), call = begin_collective(#name, root, c, i); \
+    carried; \
+    begun(HERE); \
     int error = MADE(name, arguments); \
     return issued(call, i, *r, error); }
 #define MAKES(name, parameters, arguments) NAMED(name, parameters) { \
     PASS(name, arguments); \
-    int call = begin_collective(#name, -1, c, -1, HERE); \
+    int call = begin_collective(#name, NO_ROOT, c, -1); \
+    begun(HERE); \
     return made_communicator(call, MADE(name, arguments), c, made); }
 #define REFUSED(name, parameters, arguments) NAMED(name, parameters) { \
     if (!is_other_thread() && !inside) \
@@ -709,16 +1025,16 @@ typedef MPI_Datatype T; typedef MPI_Request R; typedef MPI_Status S; typedef MPI
 SEND(Send, Ssend) SEND(Ssend, Ssend) SEND(Bsend, Bsend) SEND(Rsend, Rsend)
 ISEND(Isend, Issend) ISEND(Issend, Issend) ISEND(Ibsend, Ibsend) ISEND(Irsend, Irsend)
 
-RECEIVE(Recv, (void *b, int n, T t, int q, int wanted, MPI_Comm c, S *s), (b, n, t, q, wanted, c, s), NULL, OF(n, t, q, wanted))
+RECEIVE(Recv, (void *b, int n, T t, int q, int wanted, MPI_Comm c, S *s), (b, n, t, q, wanted, c, s), NULL, OF(b, n, t, q, wanted))
 RECEIVE(Sendrecv, (V *b, int n, T t, int to, int tag, void *o, int m, T u, int q, int wanted, MPI_Comm c, S *s),
-        (b, n, t, to, tag, o, m, u, q, wanted, c, s), OF(n, t, to, tag), OF(m, u, q, wanted))
+        (b, n, t, to, tag, o, m, u, q, wanted, c, s), OF(b, n, t, to, tag), OF(o, m, u, q, wanted))
 RECEIVE(Sendrecv_replace, (void *b, int n, T t, int to, int tag, int q, int wanted, MPI_Comm c, S *s),
-        (b, n, t, to, tag, q, wanted, c, s), OF(n, t, to, tag), OF(n, t, q, wanted))
+        (b, n, t, to, tag, q, wanted, c, s), OF(b, n, t, to, tag), OF(b, n, t, q, wanted))
 
 NAMED(Irecv, (void *b, int n, T t, int q, int tag, MPI_Comm c, R *r))
 {
     PASS(Irecv, (b, n, t, q, tag, c, r));
-    int i = add_request(r, 1, communicator_of(c)), call = begin_message("Irecv", NULL, OF(n, t, q, tag), i, HERE);
+    int i = add_request(r, 1, communicator_of(c)), call = begin_message("Irecv", NULL, OF(b, n, t, q, tag), i, HERE);
     force(call, c, &q, &tag);
     int error = MADE(Irecv, (b, n, t, q, tag, c, r));
     return issued(call, i, *r, error);
@@ -737,6 +1053,9 @@ ROW(Testall, (int n, R r[], int *f, S s[]), (n, r, f, s), waited(WAITING(Testall
 ROW(Testany, (int n, R r[], int *x, int *f, S *s), (n, r, x, f, s), waited(WAITING(Testany, ANY, 1, n), f, NULL, x, ONE(s)))
 ROW(Testsome, (int n, R r[], int *m, int x[], S s[]), (n, r, m, x, s), waited(WAITING(Testsome, SOME, 1, n), NULL, m, x, MANY(s)))
 ROW(Request_free, (R *r), (r), freed(HERE, r))
+ROW(Comm_free, (MPI_Comm *made), (made), (freed_communicator(made), MADE(Comm_free, (made))))
+ROW(Comm_disconnect, (MPI_Comm *made), (made), (freed_communicator(made), MADE(Comm_disconnect, (made))))
+ROW(Comm_set_name, (MPI_Comm c, const char *name), (c, name), (named_communicator(c, name), MADE(Comm_set_name, (c, name))))
 PERSISTENT(Send_init, "Isend", const)
 PERSISTENT(Ssend_init, "Issend", const)
 PERSISTENT(Bsend_init, "Ibsend", const)
@@ -751,31 +1070,31 @@ NAMED(Startall, (int n, R r[]))
     return MADE(Startall, (n, r));
 }
 
-COLLECTIVE(Barrier, -1, (MPI_Comm c), (c))
-COLLECTIVE(Bcast, q, (void *b, int n, T t, int q, MPI_Comm c), (b, n, t, q, c))
-COLLECTIVE(Reduce, q, (V *b, void *o, int n, T t, MPI_Op p, int q, MPI_Comm c), (b, o, n, t, p, q, c))
-COLLECTIVE(Allreduce, -1, (V *b, void *o, int n, T t, MPI_Op p, MPI_Comm c), (b, o, n, t, p, c))
-COLLECTIVE(Scan, -1, (V *b, void *o, int n, T t, MPI_Op p, MPI_Comm c), (b, o, n, t, p, c))
-COLLECTIVE(Exscan, -1, (V *b, void *o, int n, T t, MPI_Op p, MPI_Comm c), (b, o, n, t, p, c))
-COLLECTIVE(Gather, q, (V *b, int n, T t, void *o, int m, T u, int q, MPI_Comm c), (b, n, t, o, m, u, q, c))
-COLLECTIVE(Gatherv, q, (V *b, int n, T t, void *o, I *m, I *x, T u, int q, MPI_Comm c), (b, n, t, o, m, x, u, q, c))
-COLLECTIVE(Scatter, q, (V *b, int n, T t, void *o, int m, T u, int q, MPI_Comm c), (b, n, t, o, m, u, q, c))
-COLLECTIVE(Scatterv, q, (V *b, I *n, I *x, T t, void *o, int m, T u, int q, MPI_Comm c), (b, n, x, t, o, m, u, q, c))
-COLLECTIVE(Allgather, -1, (V *b, int n, T t, void *o, int m, T u, MPI_Comm c), (b, n, t, o, m, u, c))
-COLLECTIVE(Allgatherv, -1, (V *b, int n, T t, void *o, I *m, I *x, T u, MPI_Comm c), (b, n, t, o, m, x, u, c))
-COLLECTIVE(Alltoall, -1, (V *b, int n, T t, void *o, int m, T u, MPI_Comm c), (b, n, t, o, m, u, c))
-COLLECTIVE(Alltoallv, -1, (V *b, I *n, I *x, T t, void *o, I *m, I *y, T u, MPI_Comm c), (b, n, x, t, o, m, y, u, c))
-COLLECTIVE(Alltoallw, -1, (V *b, I *n, I *x, const T *t, void *o, I *m, I *y, const T *u, MPI_Comm c), (b, n, x, t, o, m, y, u, c))
-COLLECTIVE(Reduce_scatter, -1, (V *b, void *o, I *n, T t, MPI_Op p, MPI_Comm c), (b, o, n, t, p, c))
-COLLECTIVE(Reduce_scatter_block, -1, (V *b, void *o, int n, T t, MPI_Op p, MPI_Comm c), (b, o, n, t, p, c))
-ICOLLECTIVE(Ibarrier, -1, (MPI_Comm c, R *r), (c, r))
-ICOLLECTIVE(Ibcast, q, (void *b, int n, T t, int q, MPI_Comm c, R *r), (b, n, t, q, c, r))
-ICOLLECTIVE(Ireduce, q, (V *b, void *o, int n, T t, MPI_Op p, int q, MPI_Comm c, R *r), (b, o, n, t, p, q, c, r))
-ICOLLECTIVE(Iallreduce, -1, (V *b, void *o, int n, T t, MPI_Op p, MPI_Comm c, R *r), (b, o, n, t, p, c, r))
-ICOLLECTIVE(Igather, q, (V *b, int n, T t, void *o, int m, T u, int q, MPI_Comm c, R *r), (b, n, t, o, m, u, q, c, r))
-ICOLLECTIVE(Iscatter, q, (V *b, int n, T t, void *o, int m, T u, int q, MPI_Comm c, R *r), (b, n, t, o, m, u, q, c, r))
-ICOLLECTIVE(Iallgather, -1, (V *b, int n, T t, void *o, int m, T u, MPI_Comm c, R *r), (b, n, t, o, m, u, c, r))
-ICOLLECTIVE(Ialltoall, -1, (V *b, int n, T t, void *o, int m, T u, MPI_Comm c, R *r), (b, n, t, o, m, u, c, r))
+COLLECTIVE(Barrier, NO_ROOT, (MPI_Comm c), (c), (void)0)
+COLLECTIVE(Bcast, q, (void *b, int n, T t, int q, MPI_Comm c), (b, n, t, q, c), put_types("out", n, t))
+COLLECTIVE(Reduce, q, (V *b, void *o, int n, T t, MPI_Op p, int q, MPI_Comm c), (b, o, n, t, p, q, c), put_reduced(p, n, t))
+COLLECTIVE(Allreduce, NO_ROOT, (V *b, void *o, int n, T t, MPI_Op p, MPI_Comm c), (b, o, n, t, p, c), put_reduced(p, n, t))
+COLLECTIVE(Scan, NO_ROOT, (V *b, void *o, int n, T t, MPI_Op p, MPI_Comm c), (b, o, n, t, p, c), put_reduced(p, n, t))
+COLLECTIVE(Exscan, NO_ROOT, (V *b, void *o, int n, T t, MPI_Op p, MPI_Comm c), (b, o, n, t, p, c), put_reduced(p, n, t))
+COLLECTIVE(Gather, q, (V *b, int n, T t, void *o, int m, T u, int q, MPI_Comm c), (b, n, t, o, m, u, q, c), put_gathered(is_me(c, q), b, n, t, m, u))
+COLLECTIVE(Gatherv, q, (V *b, int n, T t, void *o, I *m, I *x, T u, int q, MPI_Comm c), (b, n, t, o, m, x, u, q, c), put_gathered(is_me(c, q), b, n, t, OF_EACH, u))
+COLLECTIVE(Scatter, q, (V *b, int n, T t, void *o, int m, T u, int q, MPI_Comm c), (b, n, t, o, m, u, q, c), put_scattered(is_me(c, q), n, t, o, m, u))
+COLLECTIVE(Scatterv, q, (V *b, I *n, I *x, T t, void *o, int m, T u, int q, MPI_Comm c), (b, n, x, t, o, m, u, q, c), put_scattered(is_me(c, q), OF_EACH, t, o, m, u))
+COLLECTIVE(Allgather, NO_ROOT, (V *b, int n, T t, void *o, int m, T u, MPI_Comm c), (b, n, t, o, m, u, c), put_gathered(1, b, n, t, m, u))
+COLLECTIVE(Allgatherv, NO_ROOT, (V *b, int n, T t, void *o, I *m, I *x, T u, MPI_Comm c), (b, n, t, o, m, x, u, c), put_gathered(1, b, n, t, OF_EACH, u))
+COLLECTIVE(Alltoall, NO_ROOT, (V *b, int n, T t, void *o, int m, T u, MPI_Comm c), (b, n, t, o, m, u, c), put_gathered(1, b, n, t, m, u))
+COLLECTIVE(Alltoallv, NO_ROOT, (V *b, I *n, I *x, T t, void *o, I *m, I *y, T u, MPI_Comm c), (b, n, x, t, o, m, y, u, c), put_gathered(1, b, OF_EACH, t, OF_EACH, u))
+COLLECTIVE(Alltoallw, NO_ROOT, (V *b, I *n, I *x, const T *t, void *o, I *m, I *y, const T *u, MPI_Comm c), (b, n, x, t, o, m, y, u, c), (void)0)
+COLLECTIVE(Reduce_scatter, NO_ROOT, (V *b, void *o, I *n, T t, MPI_Op p, MPI_Comm c), (b, o, n, t, p, c), put_reduced(p, OF_EACH, t))
+COLLECTIVE(Reduce_scatter_block, NO_ROOT, (V *b, void *o, int n, T t, MPI_Op p, MPI_Comm c), (b, o, n, t, p, c), put_reduced(p, n, t))
+ICOLLECTIVE(Ibarrier, NO_ROOT, (MPI_Comm c, R *r), (c, r), (void)0)
+ICOLLECTIVE(Ibcast, q, (void *b, int n, T t, int q, MPI_Comm c, R *r), (b, n, t, q, c, r), put_types("out", n, t))
+ICOLLECTIVE(Ireduce, q, (V *b, void *o, int n, T t, MPI_Op p, int q, MPI_Comm c, R *r), (b, o, n, t, p, q, c, r), put_reduced(p, n, t))
+ICOLLECTIVE(Iallreduce, NO_ROOT, (V *b, void *o, int n, T t, MPI_Op p, MPI_Comm c, R *r), (b, o, n, t, p, c, r), put_reduced(p, n, t))
+ICOLLECTIVE(Igather, q, (V *b, int n, T t, void *o, int m, T u, int q, MPI_Comm c, R *r), (b, n, t, o, m, u, q, c, r), put_gathered(is_me(c, q), b, n, t, m, u))
+ICOLLECTIVE(Iscatter, q, (V *b, int n, T t, void *o, int m, T u, int q, MPI_Comm c, R *r), (b, n, t, o, m, u, q, c, r), put_scattered(is_me(c, q), n, t, o, m, u))
+ICOLLECTIVE(Iallgather, NO_ROOT, (V *b, int n, T t, void *o, int m, T u, MPI_Comm c, R *r), (b, n, t, o, m, u, c, r), put_gathered(1, b, n, t, m, u))
+ICOLLECTIVE(Ialltoall, NO_ROOT, (V *b, int n, T t, void *o, int m, T u, MPI_Comm c, R *r), (b, n, t, o, m, u, c, r), put_gathered(1, b, n, t, m, u))
 MAKES(Comm_dup, (MPI_Comm c, MPI_Comm *made), (c, made))
 MAKES(Comm_dup_with_info, (MPI_Comm c, MPI_Info i, MPI_Comm *made), (c, i, made))
 MAKES(Comm_split, (MPI_Comm c, int color, int key, MPI_Comm *made), (c, color, key, made))
