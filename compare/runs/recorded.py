@@ -30,23 +30,25 @@ sys.path.insert(0, os.path.dirname(os.path.dirname(os.path.abspath(__file__))))
 
 from libraries.library_runs import ENVIRONMENT, LIBRARIES
 from places import TOP
+from rows.worked_pages import PAGES
 from rows.worked_records import RUNS, STATEMENTS, UNSEEN, UNSEEN_ENDS
+
+from runs.recorded_pages import ALARMS, wrong_live, wrong_pages
 
 sys.path.insert(0, f'{TOP}/tools/record')
 
 import checking
 import forcing
-from matching import others, taken_kinds
+from matching import others
 from plan import Plan
 from records import WORLD, Refused, paths_of, read_run
-from report import Page, recorded, tags_of, tell_clashes, tell_ending, tell_others, tell_same_matches
+from page import Page, tags_of
+from report import recorded, tell_record
 from script import script_of
 from trying import Tries, tell_tries
 
 STORED = f'{TOP}/compare/recorded'
 SEED, CUT = 65, 200
-# What a page must not tell of a program that is right.
-ALARMS = ('HANG', 'SENDS', 'LEFT', 'LENGTH', 'DIFFER', 'STILL')
 RANKS = {'butterfly': 4}
 FEW_ENDS, MOST_TRIES = 8, 60
 MODES = ('rendezvous', 'buffered')
@@ -151,6 +153,7 @@ def wrong_cut(number, folder, met):
         met['refused'] += 1
         return None
     met['scripts'] += 1
+    met['without a rank'] += any(beside.no_record for beside in made.run.beside)
     try:
         for path in (made.same_path, made.asked_path):
             checking.report_of(path, 'buffered', 20)
@@ -188,13 +191,9 @@ def wrong_program(library, recorder, row, folder, most):
         if made.asked.text != file.read():
             problems.append(f'{row.name}: another script than that of the stored record')
     command = command_of(library, recorder, compiled(library, source, f'{folder}/{row.name}', ('-DMENDED',)), ranks)
-    ran = forcing.run(command, f'{folder}/0')
-    made, page = recorded(read_run(ran.folder)), Page()
-    tell_ending(page, ran, made.run)
-    tell_clashes(page, made.plan)
-    tell_same_matches(page, made, ran)
-    found = others(made.plan)
-    tell_others(page, made.run, found, taken_kinds(made.plan))
+    ran, page = forcing.run(command, f'{folder}/0'), Page()
+    told = tell_record(page, ran, read_run(ran.folder))
+    made, found = told.found, told.others
     alarms = [line for line in page.lines if line.startswith(ALARMS)]
     problems += [f'{row.name}, mended: {line}' for line in alarms + ([] if ran.status == 0 else ['did not end well'])]
     tries = Tries(command, folder, made.plan, found)
@@ -297,9 +296,12 @@ def round_trip(library, recorder, path, mode, folder):
 def under(library, chosen, folder):
     """What is wrong under a library."""
     problems, met = [], Counter()
-    recorder = forcing.built_recorder(library.compiler, folder)
+    recorder = forcing.built_recorder([library.compiler], folder)
     for row in RUNS:
         problems += wrong_program(library, recorder, row, folder, 10 if chosen.all else 3)
+        met['programs'] += 1
+    for row in PAGES:
+        problems += wrong_live(library, recorder, row, folder)
         met['programs'] += 1
     for wrong in (wrong_printed, wrong_old_force, wrong_fortran):
         found = wrong(library, recorder, folder)
@@ -339,9 +341,11 @@ def main():
             os.mkdir(f'{folder}/cut{number}')
             wrong = wrong_cut(number, f'{folder}/cut{number}', met)
             problems += [] if wrong is None else [wrong]
-        if met['scripts'] < CUT // 4 or met['refused'] < CUT // 20:
-            problems.append(f'too few of the records that were cut are scripts, or refused: {dict(met)}')
-        print(f'{len(STATEMENTS)} rows, {len(RUNS)} stored records, {CUT} cut: {met["scripts"]} scripts, {met["refused"]} refused')
+        problems += wrong_pages(f'{folder}/pages')
+        if met['scripts'] < CUT // 4 or met['without a rank'] < CUT // 20:
+            problems.append(f'too few of the records that were cut are scripts, or of fewer ranks: {dict(met)}')
+        print(f'{len(STATEMENTS)} rows, {len(RUNS)} stored records, {2 * len(PAGES)} stored pages, {CUT} cut: {met["scripts"]} scripts, '
+              f'{met["without a rank"]} of these without the record of a rank, {met["refused"]} refused')
         there = [] if chosen.no_mpi else [library for library in LIBRARIES if library.is_there() and shutil.which('addr2line')]
         if not there:
             print('skipped: no program is recorded, since there is no MPI library on the path, or none is asked for')

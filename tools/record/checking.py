@@ -70,9 +70,11 @@ def said(*words: str) -> str:
         raise NotChecked(f'{told}: {why}') from None
     try:
         output, errors = process.communicate(timeout=SECONDS)
-    except subprocess.TimeoutExpired:
+    except (subprocess.TimeoutExpired, KeyboardInterrupt) as why:
         os.killpg(process.pid, signal.SIGKILL)
         process.communicate()
+        if isinstance(why, KeyboardInterrupt):
+            raise
         raise NotChecked(f'{told}: no answer in {SECONDS} seconds') from None
     if process.returncode not in (0, 1):
         raise NotChecked(f'{told}: {errors.strip()}')

@@ -39,6 +39,7 @@ class Ending(Enum):
     STATUS = 'ended with a status'
     STANDS = 'stood still'
     LATE = 'did not end in time'
+    BROKEN = 'was interrupted'
 
 
 @dataclass
@@ -91,27 +92,32 @@ def is_static(program: str) -> bool:
     return is_code and '=>' not in libraries_of(program)
 
 
-def tools_of(program: str) -> Tuple[str, str]:
-    """The compiler and the starter of the MPI library that a program is linked with: MPICC and MPIEXEC if they are set."""
+def tools_of(program: str) -> Tuple[List[str], List[str]]:
+    """The compiler and the starter of the MPI library that a program is linked with, each with its words: MPICC and MPIEXEC if
+    they are set."""
     if is_static(program):
         raise Refused(f'{program} is linked statically: nothing stands between it and its MPI library')
     told = libraries_of(program)
     ending = '.mpich' if 'libmpich' in told else '.openmpi' if 'libmpi.so.40' in told else ''
     found = []
     for variable, name in (('MPICC', 'mpicc'), ('MPIEXEC', 'mpiexec')):
-        found.append(os.environ.get(variable) or shutil.which(name + ending) or shutil.which(name))
+        named = shutil.which(name + ending) or shutil.which(name)
+        found.append(shlex.split(os.environ.get(variable, '')) or ([named] if named else []))
         if not found[-1]:
             raise Refused(f'there is no {name} on the path: set {variable}')
     return found[0], found[1]
 
 
-def built_recorder(compiler: str, folder: str) -> str:
+def built_recorder(compiler: List[str], folder: str) -> str:
     """The recorder, built for the library of a compiler."""
     path = os.path.join(os.path.abspath(folder), 'librecord.so')
-    ran = subprocess.run([compiler, '-shared', '-fPIC', '-O2', os.path.join(HERE, 'record.c'), '-o', path],
-                         capture_output=True, text=True, check=False)
+    try:
+        ran = subprocess.run([*compiler, '-shared', '-fPIC', '-O2', os.path.join(HERE, 'record.c'), '-o', path],
+                             capture_output=True, text=True, check=False)
+    except OSError as why:
+        raise Refused(f'no compiler: {why}') from None
     if ran.returncode:
-        raise Refused(f'{compiler} doesn\'t compile the recorder: {ran.stderr.strip()}')
+        raise Refused(f'{" ".join(compiler)} doesn\'t compile the recorder: {ran.stderr.strip()}')
     return path
 
 
@@ -127,8 +133,11 @@ def not_recorded(program: str, recorder: str) -> List[str]:
 
 def printed_of(folder: str) -> List[str]:
     """The lines that a run printed."""
-    with open(f'{folder}/printed', encoding='utf-8', errors='replace') as file:
-        return file.read().splitlines()
+    try:
+        with open(f'{folder}/printed', encoding='utf-8', errors='replace') as file:
+            return file.read().splitlines()
+    except FileNotFoundError:
+        return []
 
 
 # ---- runs
@@ -138,6 +147,7 @@ class Watch:
 
     def __init__(self, folder: str, ranks: int):
         self.paths = [os.path.join(folder, f'rank.{rank}') for rank in range(ranks)]
+        self.early = [os.path.join(folder, f'early.{rank}') for rank in range(ranks)]
         self.read = [0] * ranks
         self.last = [''] * ranks
         self.called = [''] * ranks
@@ -150,15 +160,20 @@ class Watch:
                     part = file.read(1 << 20).split(b'\0', 1)[0]
             except OSError:
                 continue
-            for line in part[:part.rfind(b'\n') + 1].decode(errors='replace').splitlines(True):
-                self.read[rank] += len(line.encode(errors='replace'))
-                self.last[rank] = line
-                self.called[rank] = line.split()[2] if line.startswith('> ') else self.called[rank]
+            end = part.rfind(b'\n')
+            if end < 0:
+                continue
+            self.read[rank] += end + 1
+            self.last[rank] = part[part.rfind(b'\n', 0, end) + 1:end + 1].decode(errors='replace')
+            begun = (b'\n' + part[:end + 1]).rfind(b'\n> ')
+            self.called[rank] = part[begun:end + 1].split(None, 3)[2].decode() if begun >= 0 else self.called[rank]
         return list(self.last)
 
     def patience(self, patience: float) -> float:
         """How long the ranks may stand so before the run is ended; for ever if one of them computes, or all end."""
         kinds = [line[:1] for line in self.last]
+        if any(os.path.exists(path) and not line for path, line in zip(self.early, self.last)):
+            return patience * LOOKING           # a rank has ended before MPI_Init, and others may wait for it there
         if any(kind not in ('>', '?') and name != 'Finalize' for kind, name in zip(kinds, self.called)):
             return float('inf')
         if all(name == 'Finalize' for name in self.called):
@@ -194,10 +209,15 @@ def run(command: Command, folder: str, forced: Optional[Forced] = None) -> Ran:
     if command.is_synchronous:
         environment['MPDREC_SYNCHRONOUS'] = '1'
     with open(f'{folder}/printed', 'wb') as printed:
-        process = subprocess.Popen(command.started(), env=environment, stdin=subprocess.DEVNULL, stdout=printed,
-                                   stderr=subprocess.STDOUT, start_new_session=True)
+        try:
+            process = subprocess.Popen(command.started(), env=environment, stdin=subprocess.DEVNULL, stdout=printed,
+                                       stderr=subprocess.STDOUT, start_new_session=True)
+        except OSError as why:
+            raise Refused(f'no starter: {why}') from None
         try:
             ran = watched(process, command, folder)
+        except KeyboardInterrupt:
+            ran = Ran(folder, Ending.BROKEN, -1, 0.0)
         finally:
             end(process)
     settle(folder)

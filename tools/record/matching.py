@@ -46,7 +46,7 @@ class Others:
 
 
 def kind_of(receive: Call, send: Call) -> Kind:
-    return Kind(receive.told(), f'{send.told()} (tag {send.send_tag})')
+    return Kind(f'{receive.told()}{receive.on}', f'{send.told()}{send.on} (tag {send.send_tag})')
 
 
 def taken_kinds(plan: Plan) -> Counter:

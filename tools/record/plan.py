@@ -1,5 +1,6 @@
 """What must be known of a whole run before a script of it is written: what its wildcards took, its tags, and its collectives."""
 
+from itertools import islice
 from typing import Dict, List, Optional, Set, Tuple
 
 from records import ANY, WORLD, Call, Message, Refused, Run
@@ -47,6 +48,7 @@ class Plan:
             self.find_probes(calls)
         self.sizes = {(call.rank, call.fields['to'], call.comm, call.send_tag, int(call.fields['bytes']))
                       for call in run.all_calls() if call.is_send}
+        self.alike: List[List[Call]] = []       # the calls of each collective that are of one name and root
         self.clashes = self.find_clashes()
         self.find_notes()
 
@@ -74,7 +76,7 @@ class Plan:
                     self.fused.add(call)
                 continue
             wanted = (str(found.source), str(found.tag))
-            after = (other for other in calls[index + 1:] if other.comm == call.comm and could_take(other, wanted))
+            after = (other for other in islice(calls, index + 1, None) if other.comm == call.comm and could_take(other, wanted))
             taker = next(after, None)
             if taker is None or taker in self.received_before:
                 continue
@@ -106,7 +108,8 @@ class Plan:
         found = {}
         for (comm, tag), number in self.tags.items():
             space = comm.partition(' collective')
-            found[number] = tag if comm == WORLD else f'of {tag.split()[0]} on {space[0]}' if space[1] else f'{tag} on {comm}'
+            told = self.run.told_comm(space[0])
+            found[number] = tag if comm == WORLD else f'of {tag.split()[0]} on {told}' if space[1] else f'{tag} on {told}'
         return found
 
     # ---- collectives
@@ -146,12 +149,19 @@ class Plan:
     def find_clashes(self) -> List[List[Call]]:
         """The first collective on each communicator that isn't the same at all its ranks."""
         found = []
-        for comm in self.run.comms:
-            by_rank = [[call for call in calls if call.is_collective and call.comm == comm] for calls in self.run.calls]
+        by_comm: Dict[str, List[List[Call]]] = {comm: [[] for _ in self.run.calls] for comm in self.run.comms}
+        for call in self.run.all_calls():
+            if call.is_collective:
+                by_comm[call.comm][call.rank].append(call)
+        for by_rank in by_comm.values():
+            is_alike = True
             for turn in range(max(map(len, by_rank))):
                 here = [calls[turn] for calls in by_rank if turn < len(calls)]
                 self.turn.update({(call.rank, call.number): turn for call in here})
-                if not found and len({(call.name, call.fields['root']) for call in here}) > 1:
+                is_alike = is_alike and len({(call.name, call.fields['root']) for call in here}) == 1
+                if is_alike:
+                    self.alike.append(here)
+                elif not found:
                     found.append(here)
                     self.clashing.keys |= Chosen(here).keys
         return found

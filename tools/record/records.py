@@ -117,6 +117,11 @@ class Call:
         """Whether the call only looks whether something is there."""
         return self.name in ('Iprobe', 'Improbe') or self.name.startswith('Test')
 
+    @property
+    def times(self) -> int:
+        """How often a look found nothing."""
+        return int(self.fields.get('times', 1))
+
     def told(self) -> str:
         """The call as pages tell it."""
         return f'{self.place} MPI_{self.name}'
@@ -139,12 +144,15 @@ class Change(NamedTuple):
 @dataclass
 class Beside:
     """What the record of a rank has beside its calls: how its process ended, communicators that it made, by the call, and
-    freed, sends that were changed under way, and calls that name what isn't there."""
+    freed, sends that were changed under way, calls that name what isn't there, and calls that failed otherwise."""
     end: Optional[End] = None
     made: Dict[str, Call] = field(default_factory=dict)
     freed: List[str] = field(default_factory=list)
     changes: List[Change] = field(default_factory=list)
     invalid: List[Call] = field(default_factory=list)
+    failed: List[Call] = field(default_factory=list)
+    looks: List[Call] = field(default_factory=list)     # all that it looked at since its last call
+    no_record: str = ''                 # why there is no record, if there is none
 
 
 @dataclass
@@ -157,7 +165,7 @@ class Run:
     looks: List[Optional[Call]]
     comms: Dict[str, List[int]]
     beside: List[Beside]
-    names: Dict[str, str] = field(default_factory=dict)
+    names: Dict[str, str] = field(default_factory=dict)    # those that the program gives to communicators
 
     @property
     def size(self) -> int:
@@ -229,7 +237,7 @@ class Reader:
     def __init__(self, rank: int, comms: Dict[str, List[int]], names: Dict[str, str]):
         self.rank, self.comms, self.names = rank, comms, names
         self.calls: List[Call] = []
-        self.look: Optional[Call] = None
+        self.look: Optional[Call] = None    # the last since the last call
         self.beside = Beside()
         self.changed: List[int] = []
         self.size, self.program = 0, ''
@@ -277,8 +285,10 @@ class Reader:
             self.changed = []
             self.calls.append(call)
             self.look = None
+            self.beside.looks = []
         elif kind == '?':
             look = self.call_of(words)
+            self.beside.looks.append(look)
             if self.look is None or last_of(look) >= last_of(self.look):
                 self.look = look
         elif kind == '<':
@@ -292,6 +302,7 @@ class Reader:
     def without_invalid(self) -> List[Call]:
         """The calls but those that did nothing, since they name what isn't there, or failed at once."""
         self.beside.invalid = [call for call in self.calls if call.absent]
+        self.beside.failed = [call for call in self.calls if call.error]
         return [call for call in self.calls if not call.absent and not (call.error and not call.completions)]
 
 
@@ -317,7 +328,7 @@ def why_refused(words: List[str]) -> str:
 
 
 def why_no_record(folder: str, rank: int) -> str:
-    """Why a rank left no record, as far as its process told."""
+    """Why a rank left no record, as far as its process told: its last line, if it ended by itself."""
     try:
         end = next(line.split() for line in text_of(os.path.join(folder, f'early.{rank}')).splitlines() if line.startswith('end '))
         place = place_of(end[3:])
@@ -349,26 +360,24 @@ def read_run(folder: str) -> Run:
     """The run whose records stand in a folder. Refuses what can't be read, and what isn't whole."""
     comms: Dict[str, List[int]] = {}
     names: Dict[str, str] = {}
-    readers: List[Reader] = []
     paths = {int(os.path.basename(path)[5:]): path for path in paths_of(folder)}
-    for rank, path in paths.items():
-        missing = next((lower for lower in range(rank) if lower not in paths), None)
-        if missing is not None:
-            raise Refused(why_no_record(folder, missing))
-        readers.append(read_rank(rank, path, comms, names))
-    if not readers:
+    found = {rank: read_rank(rank, path, comms, names) for rank, path in paths.items()}
+    found = {rank: reader for rank, reader in found.items() if reader.size > 0 or reader.calls}
+    if not found:
         early = sorted(int(name[6:]) for name in os.listdir(folder) if re.fullmatch(r'early\.\d{1,6}', name))
         raise Refused(why_no_record(folder, early[0]) if early else
                       'nothing was recorded: no rank came to MPI_Init, or they called another MPI library than the recorder was built for')
-    if any(reader.size != len(readers) for reader in readers):
-        size = max(reader.size for reader in readers)
-        why = f'; {why_no_record(folder, len(readers))}' if size > len(readers) else ''
-        raise Refused(f'{sum(reader.size > 0 for reader in readers)} ranks of {size} left a record{why}')
-    first = readers[0]
+    size = max(reader.size for reader in found.values())
+    if any(reader.size != size for reader in found.values()) or max(found) >= size:
+        raise Refused(f'{sum(reader.size > 0 for reader in found.values())} ranks of {size} left a record')
+    first = found[min(found)]
+    readers = [found.get(rank) or Reader(rank, comms, names) for rank in range(size)]
+    for rank in set(range(size)) - set(found):
+        readers[rank].beside.no_record = why_no_record(folder, rank)
     calls = [reader.without_invalid() for reader in readers]
     run = Run(folder, os.path.basename(first.program), calls, [reader.look for reader in readers], comms,
               [reader.beside for reader in readers], names)
-    for call in [*run.all_calls(), *(call for beside in run.beside for call in beside.invalid)]:
+    for call in [*run.all_calls(), *(call for beside in run.beside for call in beside.invalid + beside.failed)]:
         call.on = '' if call.comm in (WORLD, NULL) or call.comm not in comms else f' on {run.told_comm(call.comm)}'
     return run
 

@@ -4,38 +4,32 @@ import os
 import re
 import signal
 from collections import Counter, defaultdict
-from dataclasses import dataclass, field
-from typing import Any, Dict, List, Optional, Tuple
+from dataclasses import dataclass
+from typing import Any, Callable, Dict, List, NamedTuple, Optional, Tuple
 
 from checking import Leaf, least_mode, report_of, shown
-from forcing import Ending, Ran
-from matching import Kind, Others, kind_of
+from explaining import Explained
+from forcing import Ending, Ran, printed_of
+from matching import MODE, Kind, Others, kind_of, others, taken_kinds
+from page import Page, ranks_of, tags_of, times_told
 from plan import Plan
-from records import Call, Refused, Run
-from script import Mark, Note, Script, marks_of, script_of
+from records import Call, Refused, Run, name_of_signal
+from script import Note, Script, script_of
+from seen import tell_invalid, tell_seen
 
 FIRST_LINE = 'mpdrec stands beside mpdbg: nothing on this page is proved'
 GRANTED = ['Taken for granted: a rank that has got the same messages (source and tag) makes the same calls; nothing else decides,',
            '  neither time nor chance nor a thread. A rank that gets another message has left the record: nothing is said of what follows.']
 MOST_SLOTS = 8
 MOST_SHOWN = 12
-SOFT = (Note.POLL.value, Note.SEVERAL.value)
-EXPLAINED = re.compile(r'rank \d+ waits at|nearest miss|the last that fits|is not there|a cycle|^    line ')
-
-
-@dataclass
-class Page:
-    """What is told of a run, a line each, with the word that it begins by."""
-    lines: List[str] = field(default_factory=list)
-    is_bad: bool = False
-
-    def tell(self, word: str, text: str, is_bad: bool = False) -> None:
-        self.lines.append(f'{word:<9} {text}' if word else f'{"":<9}   {text}')
-        self.is_bad = self.is_bad or is_bad
-
-    def has(self, word: str) -> bool:
-        """Whether something is told by this word."""
-        return any(line.startswith(f'{word} ') for line in self.lines)
+# The last lines that a run printed which ended badly: so many, each so long, without what a starter adds: frames, what it says
+# between rules, and of itself.
+MOST_PRINTED, MOST_LENGTH = 5, 110
+OF_STARTERS = re.compile(r'(\[\S+\] )?(\[ *\d+\]|\*\*\* +(Process received|End of error|and (potentially|MPI will))| *\d+  \S+\()|.*ORTE_ERROR_LOG|'
+                         r'\[\S+\] (Signal|Failing at)|\[.*\] Caught signal|=+( backtrace .*)?$|'
+                         r'\S*(mpirun|mpiexec|prterun)|YOUR APPLICATION|This typically refers|Please see the FAQ|= ')
+RULE = re.compile(r'[-=]{20}')
+SAYS = re.compile(r'mpirun|mpiexec|prterun|MPI_ABORT|Primary job|BAD TERMINATION')
 
 
 @dataclass
@@ -65,40 +59,84 @@ def recorded(run: Run) -> Recorded:
 
 # ---- how it ended
 
-ENDED = {Ending.WELL: 'ended well', Ending.STANDS: 'stood still, and was ended', Ending.LATE: 'did not end in time, and was ended'}
+ENDED = {Ending.WELL: 'ended well', Ending.STANDS: 'stood still, and was ended', Ending.LATE: 'did not end in time, and was ended',
+         Ending.BROKEN: 'was ended by an interrupt'}
 
 
 FATAL = (signal.SIGABRT, signal.SIGBUS, signal.SIGFPE, signal.SIGILL, signal.SIGKILL, signal.SIGSEGV)
 
 
-def signal_of(status: int) -> str:
-    """The signal that a status may stand for, as starters tell it; empty if it stands for none."""
+def signal_of(status: int, run: Run) -> str:
+    """The signal that a status stands for, as starters tell it; empty if it stands for none. A number that is no more than 128
+    stands for one if a rank was ended by it, or if it is one that no process sees."""
     number = status - 128 if status > 128 else status
-    return f' ({signal.Signals(number).name})' if number in FATAL else ''
+    seen = {beside.end.number for beside in run.beside if beside.end and beside.end.how == 'signal'} | {signal.SIGKILL}
+    return f' ({signal.Signals(number).name})' if number in FATAL and (status > 128 or number in seen) else ''
 
 
 def tell_ending(page: Page, ran: Ran, run: Run) -> None:
     """How the run ended, and where ranks stood."""
-    how = ENDED.get(ran.ending) or f'ended with status {ran.status}{signal_of(ran.status)}'
+    how = ENDED.get(ran.ending) or f'ended with status {ran.status}{signal_of(ran.status, run)}'
     wildcards = sum(call.is_wildcard for call in run.all_calls())
     calls = sum(map(len, run.calls))
     page.tell('RUN', f'{how}: {calls} calls on {run.size} ranks, {wildcards} of them with a wildcard', ran.ending != Ending.WELL)
-    if ran.ending != Ending.WELL:
-        for call in run.standing():
-            looks = ', which only looks' if call.looks else ''
-            page.tell('', f'rank {call.rank} stands at {call.told()}{looks}')
-        for call in (calls[-1] for calls in run.calls if calls and calls[-1].name == 'Abort'):
-            page.tell('', f'rank {call.rank} aborts at {call.told()}')
+    for beside in (beside for beside in run.beside if beside.no_record):
+        page.tell('', beside.no_record, True)
+    if ran.ending == Ending.WELL:
+        return
+    standing = {call.rank: call for call in run.standing()}
+    ended = {rank: told for rank, told in ((rank, own_end(run, rank, standing.get(rank))) for rank in range(run.size)) if told}
+    for told in ended.values():
+        page.tell('', told)
+    for rank, call in standing.items():
+        if rank not in ended:
+            looks = f', which only looks, and found nothing{times_told(call.times)}' if call.looks else ''
+            others_too = [f'; nor did {look.told()}{times_told(look.times)}' for look in run.beside[rank].looks if look is not call]
+            page.tell('', f'rank {rank} stands at {call.told()}{looks}{"".join(others_too) if looks else ""}')
+    for call in (calls[-1] for calls in run.calls if calls and calls[-1].name == 'Abort'):
+        page.tell('', f'rank {call.rank} aborts at {call.told()}')
     if ran.ending == Ending.STATUS:
-        standing = {call.rank for call in run.standing()}
-        for calls in (calls for calls in run.calls if calls and calls[-1].name not in ('Finalize', 'Abort') and calls[-1].rank not in standing):
-            page.tell('', f'rank {calls[-1].rank} ended in no call, after {calls[-1].told()}')
-        page.tell('', f'what was printed stands in {ran.folder}/printed')
+        for rank, calls in enumerate(run.calls):
+            has_left = run.beside[rank].end is not None or rank in standing
+            if calls and calls[-1].name not in ('Finalize', 'Abort') and not has_left:
+                page.tell('', f'rank {rank} ended in no call, after {calls[-1].told()}')
+        tell_printed_last(page, run.folder)
+
+
+def own_end(run: Run, rank: int, stands: Optional[Call]) -> Optional[str]:
+    """How a rank ended by itself: in a call, that is by its library, or in none."""
+    end, calls = run.beside[rank].end, run.calls[rank]
+    if end is None or (calls and calls[-1].name == 'Abort'):
+        return None
+    how = f'exit {end.number}' if end.how == 'exit' else name_of_signal(end.number)
+    if stands is not None and not stands.looks:
+        return f'rank {rank} was ended in {stands.told()}, by {how}'
+    if end[:2] == ('exit', 0):
+        return None                         # that it doesn't finalize is told by itself
+    place = f' at {end.place}' if end.place else ''
+    return f'rank {rank} ended by {how}{place}' + (f', after {calls[-1].told()}' if calls else '')
+
+
+def own_lines(lines: List[str]) -> List[str]:
+    """What a program printed, without what its starter or its library said of how it ended."""
+    rules = [number for number, line in enumerate(lines) if RULE.match(line)]
+    left_out = set()
+    for first, last in zip(rules, rules[1:]):
+        if SAYS.search('\n'.join(lines[first:last])):
+            left_out |= set(range(first, last + 1))
+    return [line for number, line in enumerate(lines) if line and number not in left_out and not OF_STARTERS.match(line)]
+
+
+def tell_printed_last(page: Page, folder: str) -> None:
+    """The last lines that a run printed."""
+    for line in own_lines([line.rstrip() for line in printed_of(folder)])[-MOST_PRINTED:]:
+        page.tell('', f'| {line[:MOST_LENGTH]}')
+    page.tell('', f'what was printed stands in {folder}/printed')
 
 
 def tell_clashes(page: Page, plan: Plan) -> None:
     for calls in plan.clashes:
-        page.tell('DIFFER', f'collectives differ at one turn on {calls[0].comm}:', True)
+        page.tell('DIFFER', f'collectives differ at one turn on {plan.run.told_comm(calls[0].comm)}:', True)
         by_call = defaultdict(list)
         for call in calls:
             by_call[call.told() + (f' of root {call.fields["root"]}' if call.fields['root'] != '-1' else '')].append(call.rank)
@@ -106,47 +144,7 @@ def tell_clashes(page: Page, plan: Plan) -> None:
             page.tell('', f'{ranks_of(ranks)} at {told}')
 
 
-def ranks_of(ranks: List[int]) -> str:
-    return ('rank ' if len(ranks) == 1 else 'ranks ') + ', '.join(map(str, ranks))
-
-
 # ---- what the matches of the run come to
-
-def with_places(line: str, script: Script) -> str:
-    """A line of an explanation, with the program's places, tags and lengths in the place of the script's lines, tags and values."""
-    marks = marks_of(script.text)
-    line = re.sub(r'(line \d+), \d+\.\d+ ', r'\1, ', line.strip())
-    line = re.sub(r'\btag (\d+)', lambda match: f'tag {script.tags.get(int(match[1]), match[1])}', line)
-    line = re.sub(r'(to \d+ tag [^,:]*?) value (\d+)', r'\1 of \2 bytes', line)
-    return re.sub(r'line (\d+)', lambda match: marks[int(match[1])].told() if int(match[1]) in marks else match[0], line)
-
-
-def soft_call(leaf: Leaf, text: str) -> Optional[str]:
-    """A call at which a rank is blocked in the script, and only looks in the program, or waits for one of several."""
-    marks = marks_of(text)
-    for number in re.findall(r'rank \d+ waits at line (\d+)', '\n'.join(leaf.told)):
-        mark = marks.get(int(number))
-        if mark and mark.note in SOFT:
-            return mark.told()
-    return None
-
-
-def cycles_of(leaf: Leaf) -> List[List[int]]:
-    """The cycles of ranks, of which each waits for the next and for no other."""
-    told = re.findall(r'a cycle, where each waits for the next: (.*)', '\n'.join(leaf.told))
-    return [[int(word.split()[1]) for word in line.split(', ')][:-1] for line in told]
-
-
-def told_of(leaf: Leaf, ranks: Optional[set]) -> List[str]:
-    """The lines of an explanation that are of these ranks, or of all."""
-    found, is_of = [], True
-    for line in leaf.told:
-        by = re.match(r'  rank (\d+) ', line)
-        is_of = ranks is None or (int(by[1]) in ranks if by else is_of)
-        if is_of and EXPLAINED.search(line):
-            found.append(line)
-    return found
-
 
 def tell_same_matches(page: Page, found: Recorded, ran: Ran) -> bool:
     """Whether the run hangs with the matches that it had, in the modes; and what is left of it. Gives whether it hangs
@@ -165,7 +163,9 @@ def tell_same_matches(page: Page, found: Recorded, ran: Ran) -> bool:
             needs_buffers = tell_hang(page, 'SENDS', 'it hangs where sends are not buffered:', leaf, found.run, found.same)
             if needs_buffers:
                 page.tell('', least_told(least_mode(found.same_path, MOST_SLOTS)))
-    if ran.ending == Ending.STANDS and not blocked and not found.plan.clashes:
+                page.tell('', f'steps: {shown("debug", found.same_path, "--mode", "rendezvous")}')
+    absent = any(call.absent for call in found.run.standing())
+    if ran.ending == Ending.STANDS and not blocked and not found.plan.clashes and not absent:
         page.tell('STILL', 'all ranks stood in calls, and the record does not say why: perhaps the run was slow (--patience)')
     return needs_buffers
 
@@ -181,23 +181,31 @@ def tell_hang(page: Page, word: str, text: str, leaf: Leaf, run: Run, script: Sc
     """Tells a deadlock of the script; whether it is one of the program. Where a rank only looks, or waits for one of
     several, it may go on in the program: then a cycle of other ranks is one all the same, and nothing else is."""
     looks = [call for call in run.looks if call is not None]
-    soft = looks[0].told() if looks else soft_call(leaf, script.text)
-    ranks = {rank for cycle in cycles_of(leaf) for rank in cycle} if soft else None
-    soft_ranks = {int(rank) for rank, number in re.findall(r'rank (\d+) waits at line (\d+)', '\n'.join(leaf.told))
-                  if marks_of(script.text).get(int(number), Mark('', '', None)).note in SOFT}
-    if soft and (not ranks or ranks & soft_ranks):
-        page.tell('UNSURE', f'the script hangs, but at {soft} the program only looks, or waits for one of several, and may go on')
+    explained = Explained(leaf, script)
+    soft = explained.soft()
+    at = looks[0].told() if looks else next((mark.told() for mark in soft.values()), None)
+    ranks = {rank for cycle in explained.cycles() for rank in cycle} if at else None
+    if at and (not ranks or ranks & set(soft)):
+        page.tell('UNSURE', f'the script hangs, but at {at} the program only looks, or waits for one of several, and may go on')
         return False
     page.tell(word, text, True)
-    for line in told_of(leaf, ranks):
-        page.tell('', ('  ' if line.startswith('    ') else '') + with_places(line, script))
+    for line in explained.told(ranks) + explained.sent_to_nobody(run):
+        page.tell('', line)
     return True
+
+
+def blocked_in(path: str, mode: str) -> List[Leaf]:
+    return [leaf for leaf in report_of(path, mode, MOST_SHOWN).leaves if leaf.outcome == 'deadlock']
+
+
+def mode_of_hang(path: str) -> str:
+    """The mode in which the script of a run that hung hangs: where sends are buffered, if it does there."""
+    return 'rendezvous' if not blocked_in(path, MODE) and blocked_in(path, 'rendezvous') else MODE
 
 
 def tell_why(page: Page, found: Recorded) -> None:
     """Why a run hung that was forced, if its script tells."""
-    blocked = [leaf for leaf in report_of(found.same_path, 'buffered', MOST_SHOWN).leaves if leaf.outcome == 'deadlock']
-    for leaf in blocked[:1]:
+    for leaf in blocked_in(found.same_path, MODE)[:1]:
         tell_hang(page, 'HANG', f'the first of those that hung, {os.path.dirname(found.same_path)}:', leaf, found.run, found.same)
 
 
@@ -206,10 +214,11 @@ def tell_leftovers(page: Page, leaf: Leaf, script: Script) -> None:
     named = [tuple(map(int, word.split('.'))) for word in leaf.named]
     sends = [script.sends[call] for call in named if call in script.sends]
     receives = [script.receives[call] for call in named if call in script.receives]
-    for told, count in Counter(f'{call.told()} of rank {call.rank} to rank {call.fields["to"]} (tag {call.send_tag})' for call in sends).items():
-        page.tell('LEFT', f'nobody receives {told}' + (f', {count} times' if count > 1 else ''), True)
-    for told, count in Counter(f'{call.told()} of rank {call.rank}' for call in receives).items():
-        page.tell('OPEN', f'no message comes for {told}' + (f', {count} times' if count > 1 else ''))
+    kinds = Counter(f'{call.told()} of rank {call.rank} to rank {call.fields["to"]}{call.on} (tag {call.send_tag})' for call in sends)
+    for told, count in kinds.items():
+        page.tell('LEFT', f'nobody receives {told}{times_told(count)}', True)
+    for told, count in Counter(f'{call.told()} of rank {call.rank}{call.on}' for call in receives).items():
+        page.tell('OPEN', f'no message comes for {told}{times_told(count)}')
 
 
 # ---- what could have been taken
@@ -236,18 +245,6 @@ def tell_others(page: Page, run: Run, found: Others, took: Counter) -> None:
         page.tell('NOT ALL', 'some matches that could have come are not listed: there are too many')
 
 
-def tags_of(tags: List[int]) -> str:
-    """Tags as they are told: those that follow one another from the first to the last."""
-    rows: List[List[int]] = []
-    for tag in sorted(set(tags)):
-        if rows and rows[-1][-1] == tag - 1:
-            rows[-1].append(tag)
-        else:
-            rows.append([tag])
-    told = [f'{row[0]} to {row[-1]}' if len(row) > 2 else ', '.join(map(str, row)) for row in rows]
-    return ('tags ' if len(set(tags)) > 1 else 'tag ') + ', '.join(told)
-
-
 def times_of(count: int) -> str:
     return f'at {count} call{"s" * (count != 1)}'
 
@@ -270,14 +267,38 @@ def tell_taken(page: Page, took: Counter) -> None:
         page.tell('TOOK', f'{kind.receive} took {kind.send} {times_of(count)}')
 
 
-def tell_end(page: Page, found: Recorded, seconds: float) -> None:
-    """What was taken for granted, and how the scripts are opened."""
+class Told(NamedTuple):
+    """What was told of a recorded run: its scripts, what else could have been taken, and what was."""
+    found: Recorded
+    others: Others
+    took: Counter
+
+
+def tell_record(page: Page, ran: Ran, run: Run, synchronous: Callable[[], None] = lambda: None) -> Told:
+    """Tells all that the record of a run shows. Where sends that are not buffered hang, `synchronous` is done then."""
+    tell_ending(page, ran, run)
+    tell_invalid(page, run)
+    found = recorded(run)
+    took = taken_kinds(found.plan)
+    tell_clashes(page, found.plan)
+    if tell_same_matches(page, found, ran):
+        synchronous()
+    tell_seen(page, found.plan)
+    if ran.ending != Ending.WELL:
+        tell_taken(page, took)
+    other = others(found.plan)
+    tell_others(page, run, other, took)
+    return Told(found, other, took)
+
+
+def tell_end(page: Page, found: Recorded, seconds: str) -> None:
+    """What was taken for granted, and how the scripts are opened: in the mode in which all but SENDS was found."""
     for note in found.plan.notes:
         page.tell('NOTE', note)
     page.lines += GRANTED
-    page.lines.append(f'{seconds:.1f} s; the script with the matches of this run, {found.same.statements} statements:')
-    page.lines += [f'  {shown(word, found.same_path)}' for word in ('debug', 'diagnose')]
+    page.lines.append(f'{seconds}the script with the matches of this run, {found.same.statements} statements:')
+    page.lines += [f'  {shown(word, found.same_path, "--mode", MODE)}' for word in ('debug', 'diagnose')]
     if found.asked.statements > found.same.statements:
         page.lines.append(f'and with its wildcards, {found.asked.statements} statements, where a trap marked [{Note.LEFT.value}] is a rank '
                           'that leaves the record:')
-        page.lines += [f'  {shown(word, found.asked_path)}' for word in ('debug', 'diagnose')]
+        page.lines += [f'  {shown(word, found.asked_path, "--mode", MODE)}' for word in ('debug', 'diagnose')]

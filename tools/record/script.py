@@ -153,7 +153,10 @@ class RankWriter:
             if not call.has_ended:
                 self.put('assert 0;', call, Note.STOOD)
                 return
-        if self.plan.run.looks[self.rank] is None:
+        stood = next((call for call in self.plan.run.beside[self.rank].invalid if not call.has_ended), None)
+        if stood is not None:
+            self.put('assert 0;', stood, Note.STOOD)
+        elif self.plan.run.looks[self.rank] is None:
             self.put('assert 0;')           # it stood in none: what it would do is not known
 
     def write_call(self, call: Call) -> None:

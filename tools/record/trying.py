@@ -12,8 +12,11 @@ from forcing import Command, Ending, Forced, Ran, printed_of
 from matching import MODE, Other, Others, kind_of, others, taken_kinds
 from plan import Plan
 from records import Refused, Run, read_run
-from report import ENDED, Page, Recorded, recorded, tell_why
+from page import Page, times_told
+from report import ENDED, Recorded, mode_of_hang, recorded, tell_why
 
+# What is told of a run as it has ended, on its own line.
+Progress = Callable[[str], None]
 # So many lines that a run printed, and others did not, are told, up to so many characters each.
 MOST_LINES, MOST_LENGTH = 3, 100
 HUNG = 'hung'
@@ -73,6 +76,8 @@ class Tries:
         """Runs the program with these matches forced, and looks what else it could have taken then."""
         folder = os.path.join(self.folder, str(len(self.tried) + 1))
         ran = forcing.run(self.command, folder, other.forced)
+        if ran.ending == Ending.BROKEN:
+            raise KeyboardInterrupt
         try:
             run = self.read(folder)
         except Refused as why:
@@ -98,6 +103,13 @@ class Tries:
         return Tried(ran.folder, came, stands_of(ran, run), ran.ending != Ending.WELL)
 
 
+def went(ran: Ran, run: Run) -> str:
+    """How a run went, in a few words: where a rank stood, if it hung."""
+    stands = run.standing() if ran.ending in (Ending.STANDS, Ending.LATE) else []
+    came = HUNG if ran.ending == Ending.STANDS else ENDED.get(ran.ending, f'ended with status {ran.status}')
+    return came + (f' at {", ".join(sorted({call.place for call in stands}))}' if stands else '')
+
+
 def stands_of(ran: Ran, run: Run) -> Tuple[str, ...]:
     """Where ranks stood in a run that was ended."""
     is_ended = ran.ending in (Ending.STANDS, Ending.LATE)
@@ -107,6 +119,8 @@ def stands_of(ran: Ran, run: Run) -> Tuple[str, ...]:
 def tell_synchronous(page: Page, command: Command, folder: str) -> None:
     """Runs the program with synchronous sends, where the script hangs with these."""
     ran = forcing.run(replace(command, is_synchronous=True), os.path.join(folder, 'synchronous'))
+    if ran.ending == Ending.BROKEN:
+        raise KeyboardInterrupt
     try:
         stands = stands_of(ran, read_run(ran.folder))
     except Refused as why:
@@ -159,10 +173,23 @@ def tell_again(page: Page, command: Command, tried: Tried) -> None:
     """The commands that run a run again, and that open its script."""
     page.tell('', f'  again: {command.shown(tried.folder)}')
     if tried.made:
-        page.tell('', f'  steps: {shown("debug", tried.made.same_path)}')
+        page.tell('', f'  steps: {shown("debug", tried.made.same_path, "--mode", mode_of_hang(tried.made.same_path))}')
 
 
-def tell_tries(page: Page, command: Command, most: int, first: Ran, plan: Plan, found: Others) -> None:
+def tried_all(tries: Tries, most: int, progress: Progress) -> bool:
+    """Runs what can be tried, at most so often; whether it was not interrupted."""
+    try:
+        while len(tries.tried) < most and (fresh := tries.next()):
+            tries.run(fresh)
+            tried = tries.tried[-1]
+            at = sorted({told.split(' stands at ')[1].split()[0] for told in tried.stands})
+            progress(f'run {len(tries.tried)} of {most}: {tried.came}' + (f' at {", ".join(at)}' if at else ''))
+        return True
+    except KeyboardInterrupt:
+        return False
+
+
+def tell_tries(page: Page, command: Command, most: int, first: Ran, plan: Plan, found: Others, progress: Progress = lambda line: None) -> None:
     """Tries what could have come in the first run, at most so often, and tells what came of it."""
     folder = os.path.dirname(first.folder)
     if not most:
@@ -170,22 +197,20 @@ def tell_tries(page: Page, command: Command, most: int, first: Ran, plan: Plan, 
             page.tell('NOT TRIED', f'what follows {len(found.found)} of these: --try N runs the program with each of them forced')
         return
     tries = Tries(command, folder, plan, found)
-    while len(tries.tried) < most and (fresh := tries.next()):
-        tries.run(fresh)
+    is_over = tried_all(tries, most, progress)
     left = 0 if tries.next() is None else len(tries.waiting) + 1
     if tries.tried or left:
-        more = f'; {left} more could be tried' if left else '; nothing is left to try' if tries.is_whole else ''
-        page.tell('TRIED', f'{len(tries.tried)} run{"s" * (len(tries.tried) != 1)} with messages forced{more}')
+        more = f'; {left} more could be tried' if left else '; nothing is left to try' if tries.is_whole and is_over else ''
+        page.tell('TRIED', f'{len(tries.tried)} run{"s" * (len(tries.tried) != 1)} with messages forced{more}{"" if is_over else "; interrupted"}')
     by_end: Dict[Tuple, List[Tried]] = defaultdict(list)
     for tried in tries.tried:
         by_end[tried.came, tried.stands].append(tried)
     for (came, stands), alike in by_end.items():
-        times = f', {len(alike)} times' if len(alike) > 1 else ''
-        page.tell('', f'{came}{times}{": " if stands else ""}{"; ".join(stands)}', alike[0].is_bad)
+        page.tell('', f'{came}{times_told(len(alike))}{": " if stands else ""}{"; ".join(stands)}', alike[0].is_bad)
         if alike[0].is_bad:
             tell_again(page, command, alike[0])
     hung = [tried.made for tried in tries.tried if tried.came == HUNG and tried.made]
     if hung and not page.has('HANG'):
         tell_why(page, hung[0])
-    if first.ending == Ending.WELL:
+    if first.ending == Ending.WELL and is_over:
         tell_printed(page, command, folder, plan, tries.tried)

@@ -1,0 +1,155 @@
+"""Pages of recorded runs: those of stored records, byte for byte, and those of programs that are run; for compare/runs/recorded.py.
+
+    python3 compare/runs/recorded_pages.py PROGRAM [NAME..]     records these programs, or all, anew, and stores their records with pages
+
+A stored record is a text in compare/recorded/pages: how the run ended, the record of each rank, what was printed, and the page, each
+after a line `--- NAME`. Of each program there is one with its mistake, and one mended, of which nothing bad may be told. What pages must
+have of a mistake, and in which line of the program, was worked out by hand (rows/worked_pages.py). Commands that a page shows are tried:
+`diagnose` of the matches of the run finds a hang in the mode that is shown if, and only if, the page tells one.
+"""
+
+import os
+import re
+import subprocess
+import sys
+import tempfile
+
+sys.path.insert(0, os.path.dirname(os.path.dirname(os.path.abspath(__file__))))
+
+from libraries.library_runs import ENVIRONMENT, LIBRARIES
+from places import TOP
+from rows.worked_pages import PAGES
+
+sys.path.insert(0, f'{TOP}/tools/record')
+
+import checking
+import forcing
+from forcing import Ending, Ran
+from page import Page
+from records import Refused, read_run
+from report import tell_end, tell_record
+
+STORED = f'{TOP}/compare/recorded/pages'
+SOURCES = f'{TOP}/compare/recorded/programs'
+# Words of a page that tell something bad.
+ALARMS = ('HANG', 'SENDS', 'LEFT', 'LENGTH', 'DIFFER', 'STILL', 'ABSENT', 'REQUEST', 'TYPES', 'BUFFER', 'FINALIZE', 'ERROR', 'COMM', 'OPEN')
+FORMS = (('', ()), ('.mended', ('-DMENDED',)))
+COMMAND = re.compile(r'(?:^  |steps: )\./mpdbg (?:debug|diagnose) (\S+) --mode (\S+)$')
+
+
+def page_of(folder, ending, status):
+    """The page of a record in the folder `run` of a folder, as it is told there."""
+    page, before = Page(), os.getcwd()
+    os.chdir(folder)
+    try:
+        ran = Ran('run', Ending(ending), status, 0.0)
+        told = tell_record(page, ran, read_run('run'))
+        tell_end(page, told.found, '')
+    except Refused as why:
+        page.tell('REFUSED', str(why))
+    finally:
+        os.chdir(before)
+    shown = checking.shown().strip()
+    return page, [line.replace(shown, './mpdbg') for line in page.lines]
+
+
+def sections_of(text):
+    """The sections of a stored record, by name."""
+    parts = re.split(r'^--- (\S+)\n', text, flags=re.M)
+    return dict(zip(parts[1::2], parts[2::2]))
+
+
+def wrong_commands(folder, lines):
+    """What is wrong with the commands of a page: in its mode each finds a hang of the matches of the run if the page tells one."""
+    problems, hangs = [], any(line.startswith('HANG ') and 'if ' not in line for line in lines)
+    for path, mode in {found.groups() for found in map(COMMAND.search, lines) if found}:
+        if path.endswith('run.mpd'):
+            continue
+        wanted = hangs or mode == 'rendezvous'
+        ends = {leaf.outcome for leaf in checking.report_of(f'{folder}/{path}', mode, 10).leaves}
+        if ('deadlock' in ends) != wanted and not any(line.startswith('UNSURE') for line in lines):
+            problems.append(f'{path} in {mode}: ends {ends}, and the page tells a hang: {wanted}')
+    return problems
+
+
+def wrong_form(row, form, folder):
+    """What is wrong with a stored record, with its mistake or mended."""
+    name = f'{row.name}{form}'
+    with open(f'{STORED}/{name}.txt', encoding='utf-8') as file:
+        sections = sections_of(file.read())
+    os.makedirs(f'{folder}/{name}/run')
+    for part in (part for part in sections if part not in ('ending', 'page')):
+        with open(f'{folder}/{name}/run/{part}', 'w', encoding='utf-8') as file:
+            file.write(sections[part])
+    ending, _, status = sections['ending'].strip().rpartition(' ')
+    page, lines = page_of(f'{folder}/{name}', ending, int(status))
+    problems = [] if '\n'.join(lines) + '\n' == sections['page'] else ['another page: ' + '\n'.join(lines)]
+    problems += wrong_commands(f'{folder}/{name}', lines)
+    return [f'{name}: {problem}' for problem in problems + wrong_told(row, form, page)]
+
+
+def wrong_told(row, form, page):
+    """What a page doesn't tell of a mistake, or tells of a program that is right."""
+    if form:
+        return [f'told of a right program: {line}' for line in page.lines if line.startswith(ALARMS)] + (['bad'] if page.is_bad else [])
+    text = '\n'.join(page.lines)
+    return [f'not told: {told}, but {text}' for told in row.told if told not in text]
+
+
+def wrong_pages(folder):
+    """What is wrong with the pages of stored records."""
+    return [wrong for row in PAGES for form, _ in FORMS for wrong in wrong_form(row, form, folder)]
+
+
+# ---- programs under a library
+
+def run_of(library, recorder, row, words, folder):
+    """A run of a program, in the folder `run` of a folder."""
+    program = f'{folder}/{row.program or row.name}'
+    subprocess.run([library.compiler, '-w', '-g', '-O1', *words, f'{SOURCES}/{row.program or row.name}.c', '-o', program], check=True)
+    return forcing.run(forcing.Command([program], row.ranks, [library.starter], recorder, row.patience, 60.0), f'{folder}/run')
+
+
+def wrong_live(library, recorder, row, folder):
+    """What is wrong with the pages of a program, with its mistake and mended, that is run under a library."""
+    problems = []
+    for form, words in FORMS if row.library in ('', library.name) else ():
+        at = tempfile.mkdtemp(dir=folder)
+        ran = run_of(library, recorder, row, words or row.words, at)
+        page, _ = page_of(at, ran.ending.value, ran.status)
+        problems += [f'{row.name}{form}: {wrong}' for wrong in wrong_told(row, form, page)]
+    return problems
+
+
+def store(row, folder):
+    """Records a program anew, and stores its record and its page."""
+    library = next(library for library in LIBRARIES if library.name == (row.library or 'mpich'))
+    recorder = forcing.built_recorder([library.compiler], folder)
+    for form, words in FORMS:
+        at = tempfile.mkdtemp(dir=folder)
+        ran = run_of(library, recorder, row, words or row.words, at)
+        with open(f'{at}/run/printed', encoding='utf-8', errors='replace') as file:
+            printed = re.sub(r'\[\w+:\d+\]', '[host:1]', file.read())
+        with open(f'{at}/run/printed', 'w', encoding='utf-8') as file:
+            file.write(printed)
+        _, lines = page_of(at, ran.ending.value, ran.status)
+        names = sorted(name for name in os.listdir(f'{at}/run') if re.fullmatch(r'(rank|early)\.\d+|printed', name))
+        with open(f'{STORED}/{row.name}{form}.txt', 'w', encoding='utf-8') as file:
+            file.write(f'--- ending\n{ran.ending.value} {ran.status}\n')
+            for name in names:
+                with open(f'{at}/run/{name}', encoding='utf-8', errors='replace') as part:
+                    file.write(f'--- {name}\n{part.read()}')
+            file.write('--- page\n' + '\n'.join(lines) + '\n')
+        print('\n'.join([f'{row.name}{form}', *lines]))
+
+
+def main():
+    os.environ.update(ENVIRONMENT | {'MPDBG': os.path.abspath(sys.argv[1])})
+    os.makedirs(STORED, exist_ok=True)
+    with tempfile.TemporaryDirectory(prefix='pages-') as folder:
+        for row in [row for row in PAGES if not sys.argv[2:] or row.name in sys.argv[2:]]:
+            store(row, folder)
+
+
+if __name__ == '__main__':
+    main()
