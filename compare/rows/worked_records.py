@@ -92,6 +92,20 @@ STATEMENTS = (
     Written('a block that repeats becomes a loop', (
         ''.join(f'> {n} Send to=0 tag={1 + n % 2} bytes=8 comm=world @=a.c:{1 + n % 2}\n< {n}\n' for n in range(6)) + END,),
         ('i = 0;\nwhile i < 3 {\n  send 8 to 0 tag 1;  #@ a.c:1 MPI_Send\n  send 8 to 0 tag 2;  #@ a.c:2 MPI_Send\n  i = i + 1;\n}',)),
+    Written('a call that names a rank which isn\'t there does nothing, and the script of its rank ends there if it didn\'t come back', (
+        '> 0 Send to=1 tag=1 bytes=8 comm=world out=1:MPI_DOUBLE/8/1 @=a.c:1\n< 0\n'
+        '> 1 Send to=absent:-1 tag=1 bytes=8 comm=world out=1:MPI_DOUBLE/8/1 @=a.c:2\nend exit 6 @=a.c:2\n',
+        '> 0 Recv from=0 tag=1 room=8 comm=world in=1:MPI_DOUBLE/8/1 @=a.c:3\n< 0 done=-:0:1:8\n'
+        '> 1 Isend to=0 tag=absent:-5 bytes=8 comm=world request=0 @=a.c:4\n< 1 error=MPI_ERR_TAG\n'
+        '> 2 Recv from=none tag=1 room=8 comm=world @=a.c:5\n< 2 done=-\n> 3 Barrier collective=1 root=-1 comm=null @=a.c:6\n< 3 error=MPI_ERR_COMM\n' + END),
+        ('send 8 to 1 tag 1;  #@ a.c:1 MPI_Send\nassert 0;  #@ a.c:2 MPI_Send [stood here]', 'recv x from 0 tag 1;  #@ a.c:3 MPI_Recv')),
+    Written('a call that failed at once does nothing, and one that failed with a message took it', (
+        '> 0 Send to=1 tag=1 bytes=8 comm=world @=a.c:1\n< 0\n> 1 Send to=1 tag=1 bytes=8 comm=world @=a.c:2\n< 1 error=MPI_ERR_COUNT\n' + END,
+        '> 0 Recv from=0 tag=1 room=4 comm=world @=a.c:3\n< 0 done=-:0:1:8 error=MPI_ERR_TRUNCATE\n' + END),
+        ('send 8 to 1 tag 1;  #@ a.c:1 MPI_Send', 'recv x from 0 tag 1;  #@ a.c:3 MPI_Recv\nassert x <= 4;  #@ a.c:3 MPI_Recv [too long]')),
+    Written('a rank stands where it looked last, of all the places of one row of looks', (
+        'comm world.0/0 0 1\nnamed world.0/0 a name\n? 0 Iprobe first=1 last=7 times=4 @=a.c:1\n? 0 Test first=2 last=6 times=3 @=a.c:2\n',
+        'comm world.0/0 0 1\nfreed world.0/0\nchanged 0\n> 0 Wait requests=- @=a.c:3\n< 0 changed=1\n' + END), ('', '')),
     Written('a thread', ('! threads\n',), None, 'several threads call MPI: the order of their calls is one of many'),
     Written('a call that is not recorded', ('! Win_create @=a.c:7\n',), None, 'a.c:7 MPI_Win_create: this call is not recorded'),
     Written('a communicator that is not known', ('> 0 Send to=0 tag=1 bytes=0 comm=? @=a.c:1\n',), None,
@@ -117,6 +131,37 @@ UNSEEN = ((
     '> 0 Send to=0 tag=7 bytes=8 comm=world @=a.c:4\n< 0\n' + END,
     '> 0 Send to=0 tag=1 bytes=8 comm=world @=a.c:5\n< 0\n' + END))
 UNSEEN_ENDS = [('a.c:1', 'a.c:4', ['0.1'])], [('a.c:1', 'a.c:5', None)]
+
+
+# What is sent, what it is received as, and whether both are of the same types: of one sort and size, whatever language names them. What
+# has no type fits all. Fewer may come than there is room for.
+MESSAGES = (
+    ('3:MPI_INT/4/1', '5:MPI_INTEGER/4/1', True),
+    ('5:MPI_INT/4/1', '3:MPI_INT/4/1', True),
+    ('1:MPI_INT/4/2,MPI_DOUBLE/8/1', '4:MPI_INT/4/1', False),
+    ('2:MPI_INT/4/1,MPI_DOUBLE/8/1', '1:MPI_INT/4/1,MPI_DOUBLE/8/1,MPI_INT/4/1,MPI_DOUBLE/8/1', True),
+    ('2:MPI_INT/4/1,MPI_DOUBLE/8/1', '1:MPI_INT/4/1,MPI_DOUBLE/8/2', False),
+    ('1:MPI_INT/4/1', '1:MPI_FLOAT/4/1', False),
+    ('1:MPI_INT/4/1', '1:MPI_UNSIGNED/4/1', False),
+    ('1:MPI_LONG/8/1', '1:MPI_LONG_LONG_INT/8/1', True),
+    ('1:MPI_INT/4/1', '1:MPI_LONG/8/1', False),
+    ('1:MPI_DOUBLE_INT/12/1', '1:MPI_FLOAT_INT/8/1', False),
+    ('8:MPI_BYTE/1/1', '2:MPI_INT/4/1', True),
+    ('8:MPI_CHAR/1/1', '8:MPI_UNSIGNED_CHAR/1/1', True),
+    ('2:MPI_DOUBLE/8/1', '1:MPI_C_DOUBLE_COMPLEX/16/1', False),
+    ('0:MPI_INT/4/1', '1:MPI_FLOAT/4/1', True),
+    ('1:MPI_REAL/4/1', '1:MPI_FLOAT/4/1', True),
+)
+# What two ranks carry in one collective, and whether that is alike: the same types and amounts, or types where each has its own amount.
+CARRIED = (
+    ('3:MPI_INT/4/1', '3:MPI_INT/4/1', True),
+    ('3:MPI_INT/4/1', '1:MPI_INT/4/3', True),
+    ('3:MPI_INT/4/1', '4:MPI_INT/4/1', False),
+    ('3:MPI_INT/4/1', '*:MPI_INT/4/1', True),
+    ('3:MPI_INT/4/1', '*:MPI_FLOAT/4/1', False),
+    ('8:MPI_BYTE/1/1', '2:MPI_INT/4/1', True),
+    ('8:MPI_BYTE/1/1', '3:MPI_INT/4/1', False),
+)
 
 
 class Recorded(NamedTuple):

@@ -31,9 +31,9 @@ sys.path.insert(0, os.path.dirname(os.path.dirname(os.path.abspath(__file__))))
 from libraries.library_runs import ENVIRONMENT, LIBRARIES
 from places import TOP
 from rows.worked_pages import PAGES
-from rows.worked_records import RUNS, STATEMENTS, UNSEEN, UNSEEN_ENDS
+from rows.worked_records import CARRIED, MESSAGES, RUNS, STATEMENTS, UNSEEN, UNSEEN_ENDS
 
-from runs.recorded_pages import ALARMS, wrong_live, wrong_pages
+from runs.recorded_pages import ALARMS, wrong_interrupt, wrong_live, wrong_pages
 
 sys.path.insert(0, f'{TOP}/tools/record')
 
@@ -45,6 +45,7 @@ from records import WORLD, Refused, paths_of, read_run
 from page import Page, tags_of
 from report import recorded, tell_record
 from script import script_of
+from signatures import Signature, are_a_message, are_alike
 from trying import Tries, tell_tries
 
 STORED = f'{TOP}/compare/recorded'
@@ -303,6 +304,7 @@ def under(library, chosen, folder):
     for row in PAGES:
         problems += wrong_live(library, recorder, row, folder)
         met['programs'] += 1
+    problems += wrong_interrupt(library, folder)
     for wrong in (wrong_printed, wrong_old_force, wrong_fortran):
         found = wrong(library, recorder, folder)
         problems += found or []
@@ -335,6 +337,8 @@ def main():
         os.mkdir(f'{folder}/unseen')
         problems += wrong_unseen(f'{folder}/unseen')
         problems += [f'tags {tags}: {tags_of(tags)}, wanted {told}' for tags, told in TAGS if tags_of(tags) != told]
+        for fit, rows in ((are_a_message, MESSAGES), (are_alike, CARRIED)):
+            problems += [f'{fit.__name__}: {one}, {other}' for one, other, wanted in rows if fit(Signature(one), Signature(other)) != wanted]
         for row in RUNS:
             problems += [f'{row.name}: {wrong}' for wrong in wrong_stored(row)]
         for number in range(CUT):

@@ -10,6 +10,7 @@ have of a mistake, and in which line of the program, was worked out by hand (row
 
 import os
 import re
+import signal
 import subprocess
 import sys
 import tempfile
@@ -42,7 +43,7 @@ def page_of(folder, ending, status):
     page, before = Page(), os.getcwd()
     os.chdir(folder)
     try:
-        ran = Ran('run', Ending(ending), status, 0.0)
+        ran = Ran('run', Ending(ending), status, 60.0)
         told = tell_record(page, ran, read_run('run'))
         tell_end(page, told.found, '')
     except Refused as why:
@@ -119,6 +120,23 @@ def wrong_live(library, recorder, row, folder):
         page, _ = page_of(at, ran.ending.value, ran.status)
         problems += [f'{row.name}{form}: {wrong}' for wrong in wrong_told(row, form, page)]
     return problems
+
+
+def wrong_interrupt(library, folder):
+    """What is wrong with the page of mpdrec if it is interrupted after a run that was forced, and with what it told by then."""
+    program, at = f'{folder}/farm', tempfile.mkdtemp(dir=folder)
+    subprocess.run([library.compiler, '-w', '-g', f'{SOURCES}/farm.c', '-o', program], check=True)
+    words = [f'{TOP}/tools/record/mpdrec', '-n', '3', '--try', '60', '--folder', f'{at}/runs', program]
+    environment = dict(os.environ) | {'MPIEXEC': f'env {library.starter}', 'MPICC': library.compiler}
+    process = subprocess.Popen([sys.executable, *words], env=environment, stdout=subprocess.PIPE, stderr=subprocess.PIPE, text=True,
+                               preexec_fn=lambda: signal.signal(signal.SIGINT, signal.default_int_handler))
+    told = []
+    while not told or not told[-1].startswith('run 1 of 60: ') and told[-1]:
+        told.append(process.stderr.readline())
+    process.send_signal(signal.SIGINT)
+    page, more = process.communicate(timeout=60)
+    is_right = told[0].startswith('first run: ') and ('; interrupted\n' in page or '\nSTOPPED ' in page) and 'Traceback' not in more
+    return [] if is_right and '\nRUN ' in page and '\nORDER ' in page else [f'interrupted: {told}, {more}, {page}']
 
 
 def store(row, folder):

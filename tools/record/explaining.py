@@ -83,8 +83,9 @@ class Explained:
         return found + self.left_over(ranks)
 
     def left_over(self, ranks: Optional[set]) -> List[str]:
-        """Messages of the program that nobody has received, and receives that have none, each kind once."""
-        lines = [line for line in self.leaf.told if LEFT_OVER.match(line)]
+        """Messages of the program that nobody has received, and receives that have none, each kind once; without near misses."""
+        missed = {found[0] for found in map(AT_CALL.search, self.leaf.told) if found and 'nearest miss' in found.string}
+        lines = [line for line in self.leaf.told if LEFT_OVER.match(line) and AT_CALL.search(line)[0] not in missed]
         calls = [(line, self.call_in(line)) for line in lines]
         kinds = Counter(f'{self.with_places(line)} by rank {call.rank}' for line, call in calls
                         if call and not call.is_collective and (ranks is None or call.rank in ranks))

@@ -114,9 +114,10 @@ def others_of_rank(plan: Plan, rank: int, mode: str, until: float) -> Others:
     return Others([other for other in found if other.taken or other.too_long], report.is_whole and not left)
 
 
-def others(plan: Plan, mode: str = MODE) -> Others:
-    """What each wildcard receive of a run could have taken in the place of what it took, one step off the record."""
-    all_found, until = Others(), time.monotonic() + SECONDS
+def others(plan: Plan, mode: str = MODE, seconds: float = SECONDS) -> Others:
+    """What each wildcard receive of a run could have taken in the place of what it took, one step off the record; what is not found
+    in so many seconds is left out."""
+    all_found, until = Others(), time.monotonic() + min(seconds, SECONDS)
     for rank, calls in enumerate(plan.run.calls):
         if any(call.is_wildcard or plan.can_be_too_long(call) for call in calls):
             of_rank = others_of_rank(plan, rank, mode, until)

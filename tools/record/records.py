@@ -265,7 +265,21 @@ class Reader:
     def read(self, line: str) -> None:
         words = line.split()
         kind = words[0] if words else ''
-        if kind == 'mpdrec':
+        if kind == '>':
+            call = self.call_of(words)
+            self.beside.changes += [Change(request, self.calls[-1] if self.calls else None, call) for request in self.changed]
+            self.changed = []
+            self.calls.append(call)
+            self.look = None
+            self.beside.looks = []
+        elif kind == '<':
+            self.end_call(words)
+        elif kind == '?':
+            look = self.call_of(words)
+            self.beside.looks.append(look)
+            if self.look is None or last_of(look) >= last_of(self.look):
+                self.look = look
+        elif kind == 'mpdrec':
             self.size, self.program = int(words[5]), ' '.join(words[7:])
         elif kind == 'comm':
             self.comms[words[1]] = [int(word) for word in words[2:]]
@@ -279,20 +293,6 @@ class Reader:
             self.changed.append(int(words[1]))
         elif kind == 'end':
             self.beside.end = End(words[1], int(words[2]), place_of(words[3:]))
-        elif kind == '>':
-            call = self.call_of(words)
-            self.beside.changes += [Change(request, self.calls[-1] if self.calls else None, call) for request in self.changed]
-            self.changed = []
-            self.calls.append(call)
-            self.look = None
-            self.beside.looks = []
-        elif kind == '?':
-            look = self.call_of(words)
-            self.beside.looks.append(look)
-            if self.look is None or last_of(look) >= last_of(self.look):
-                self.look = look
-        elif kind == '<':
-            self.end_call(words)
         elif kind == '!':
             raise Refused(why_refused(words))
         elif kind != 'module':

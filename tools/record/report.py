@@ -21,6 +21,8 @@ FIRST_LINE = 'mpdrec stands beside mpdbg: nothing on this page is proved'
 GRANTED = ['Taken for granted: a rank that has got the same messages (source and tag) makes the same calls; nothing else decides,',
            '  neither time nor chance nor a thread. A rank that gets another message has left the record: nothing is said of what follows.']
 MOST_SLOTS = 8
+# What could have been taken is looked for so many seconds, and twice as long as the run took.
+LEAST_SECONDS = 3.0
 MOST_SHOWN = 12
 # The last lines that a run printed which ended badly: so many, each so long, without what a starter adds: frames, what it says
 # between rules, and of itself.
@@ -286,7 +288,7 @@ def tell_record(page: Page, ran: Ran, run: Run, synchronous: Callable[[], None] 
     tell_seen(page, found.plan)
     if ran.ending != Ending.WELL:
         tell_taken(page, took)
-    other = others(found.plan)
+    other = others(found.plan, seconds=LEAST_SECONDS + 2 * ran.seconds)
     tell_others(page, run, other, took)
     return Told(found, other, took)
 
