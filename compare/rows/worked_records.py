@@ -152,15 +152,16 @@ MESSAGES = (
     ('0:MPI_INT/4/1', '1:MPI_FLOAT/4/1', True),
     ('1:MPI_REAL/4/1', '1:MPI_FLOAT/4/1', True),
 )
-# What two ranks carry in one collective, and whether that is alike: the same types and amounts, or types where each has its own amount.
+# What ranks carry in one collective, and whether that is alike: the same types and amounts, or types where each has its own amount.
 CARRIED = (
-    ('3:MPI_INT/4/1', '3:MPI_INT/4/1', True),
-    ('3:MPI_INT/4/1', '1:MPI_INT/4/3', True),
-    ('3:MPI_INT/4/1', '4:MPI_INT/4/1', False),
-    ('3:MPI_INT/4/1', '*:MPI_INT/4/1', True),
-    ('3:MPI_INT/4/1', '*:MPI_FLOAT/4/1', False),
-    ('8:MPI_BYTE/1/1', '2:MPI_INT/4/1', True),
-    ('8:MPI_BYTE/1/1', '3:MPI_INT/4/1', False),
+    (('3:MPI_INT/4/1', '3:MPI_INT/4/1'), True),
+    (('3:MPI_INT/4/1', '1:MPI_INT/4/3'), True),
+    (('3:MPI_INT/4/1', '4:MPI_INT/4/1'), False),
+    (('3:MPI_INT/4/1', '4:MPI_INT/4/1', '*:MPI_INT/4/1'), True),
+    (('3:MPI_INT/4/1', '*:MPI_FLOAT/4/1'), False),
+    (('8:MPI_BYTE/1/1', '2:MPI_INT/4/1'), True),
+    (('8:MPI_BYTE/1/1', '3:MPI_INT/4/1'), False),
+    ((), True),
 )
 
 

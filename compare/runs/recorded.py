@@ -337,8 +337,8 @@ def main():
         os.mkdir(f'{folder}/unseen')
         problems += wrong_unseen(f'{folder}/unseen')
         problems += [f'tags {tags}: {tags_of(tags)}, wanted {told}' for tags, told in TAGS if tags_of(tags) != told]
-        for fit, rows in ((are_a_message, MESSAGES), (are_alike, CARRIED)):
-            problems += [f'{fit.__name__}: {one}, {other}' for one, other, wanted in rows if fit(Signature(one), Signature(other)) != wanted]
+        problems += [f'a message: {row}' for row in MESSAGES if are_a_message(Signature(row[0]), Signature(row[1])) != row[2]]
+        problems += [f'a collective: {row}' for row in CARRIED if are_alike([Signature(text) for text in row[0]]) != row[1]]
         for row in RUNS:
             problems += [f'{row.name}: {wrong}' for wrong in wrong_stored(row)]
         for number in range(CUT):

@@ -142,7 +142,7 @@ def tell_carried(page: Page, plan: Plan) -> None:
         if len({call.fields.get('op') for call in calls}) > 1:
             told[(f'operations of one MPI_{calls[0].name} differ{calls[0].on}:', *by_ranks(calls, lambda call: call.fields.get('op', 'none')))] += 1
         found = [signature for call in calls for signature in carried(call)]
-        if any(not are_alike(found[0], other) for other in found[1:]):
+        if not are_alike(found):
             told[(f'what one MPI_{calls[0].name} carries differs{calls[0].on}:', *by_ranks(calls, carried_told))] += 1
     for (first, *lines), count in told.items():
         page.tell('DIFFER', first + times_told(count), True)

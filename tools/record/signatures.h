@@ -65,6 +65,14 @@ static int add_parts(struct runs *runs, int combiner, const int *numbers, const 
     }
 }
 
+/* Frees a type that a library gave as a part of another, if it is none that MPI names. */
+static void let_go_of_part(MPI_Datatype *type)
+{
+    int numbers, addresses, types, combiner;
+    if (PMPI_Type_get_envelope(*type, &numbers, &addresses, &types, &combiner) == MPI_SUCCESS && combiner != MPI_COMBINER_NAMED)
+        PMPI_Type_free(type);
+}
+
 /* Adds a type so many times; whether what it holds is known, and short enough. */
 static int add_type(struct runs *runs, MPI_Datatype type, long times, int depth)
 {
@@ -91,8 +99,7 @@ static int add_type(struct runs *runs, MPI_Datatype type, long times, int depth)
             for (int i = 0; is_known && i < own->count; i++)
                 is_known = add_run(runs, own->run[i].type, own->run[i].times);
     for (int i = 0; i < types; i++)
-        if (PMPI_Type_get_envelope(made_of[i], &numbers, &addresses, &types, &combiner) == MPI_SUCCESS && combiner != MPI_COMBINER_NAMED)
-            PMPI_Type_free(&made_of[i]);
+        let_go_of_part(&made_of[i]);
     free(own);
     free(made_of);
     free(address);

@@ -87,11 +87,17 @@ def are_a_message(sent: Signature, taken: Signature) -> bool:
     return None in values or fits(values[0][::-1], values[1][::-1])
 
 
-def are_alike(one: Signature, other: Signature) -> bool:
-    """Whether two ranks carry the same in one collective; the types alone where each rank has so many of its own."""
+def are_alike(found: List[Signature]) -> bool:
+    """Whether all ranks carry the same in one collective; the types alone if some has so many for each rank."""
+    has_each = any(signature.count is None for signature in found)
+    return all(is_like(found[0], other, has_each) for other in found[1:])
+
+
+def is_like(one: Signature, other: Signature, has_each: bool) -> bool:
+    """Whether two are of the same types, and of the same amounts if these are not of each rank."""
     if one.is_untyped or other.is_untyped:
-        return None in (one.bytes(), other.bytes()) or one.bytes() == other.bytes()
-    if one.count is None or other.count is None:
+        return has_each or one.bytes() == other.bytes()
+    if has_each:
         return {values[:2] for values in one.row} == {values[:2] for values in other.row}
     values = one.values(), other.values()
     return None in values or one.bytes() == other.bytes() and fits(values[0][::-1], values[1][::-1])
