@@ -5,7 +5,8 @@ from typing import NamedTuple, Tuple
 
 class Shown(NamedTuple):
     """A program of compare/recorded/programs, how it is run, and what the page tells of its mistake. It is run under any library, or under
-    one alone, since that one gives numbers which name nobody another meaning. Its name is the program's, if no other is named."""
+    one alone, since that one gives numbers which name nobody another meaning. Its name is the program's, if no other is named. One that isn't
+    steady may have another page in another run, and is stored alone."""
     name: str
     ranks: int
     told: Tuple[str, ...]
@@ -13,6 +14,7 @@ class Shown(NamedTuple):
     library: str = ''
     program: str = ''
     patience: float = 1.0
+    is_steady: bool = True
 
 
 PAGES = (
@@ -39,5 +41,12 @@ PAGES = (
     # Each of three ranks changes its last cell between two waits, in each of three turns.
     Shown('wave', 3, ('BUFFER    wave.c:18 MPI_Isend of ranks 0 to 2: what it still sends is changed between wave.c:23 MPI_Wait and '
                       'wave.c:25 MPI_Wait, 9 times',)),
+    # Those of worked_records.py, each by its word. A hang is opened in the mode in which it was found, which is another for SENDS.
+    Shown('farm', 3, ('HANG      it hangs, whatever is buffered:', 'left over: farm.c:44 MPI_Send, send to 0 tag 2 of 4 bytes by rank 2',
+                      'same.mpd --mode buffered'), is_steady=False),
+    Shown('butterfly', 4, ('SENDS     it hangs where sends are not buffered:', '(mode slots:2)', 'same.mpd --mode rendezvous')),
+    Shown('halo', 3, ('HANG      it hangs, whatever is buffered:', 'halo.c:23 MPI_Irecv, irecv from 0 tag 1: for a send of rank 0 with tag 1', ': another tag')),
+    Shown('solver', 3, ('DIFFER    collectives differ at one turn on MPI_COMM_WORLD:',)),
+    Shown('sweep', 3, ('LEFT      nobody receives sweep.c:',)),
     Shown('table', 3, ('rank 1 ended by SIGSEGV at table.c:10, after table.c:22 MPI_Bcast',)),
 )

@@ -114,7 +114,7 @@ def run_of(library, recorder, row, words, folder):
 def wrong_live(library, recorder, row, folder):
     """What is wrong with the pages of a program, with its mistake and mended, that is run under a library."""
     problems = []
-    for form, words in FORMS if row.library in ('', library.name) else ():
+    for form, words in FORMS if row.is_steady and row.library in ('', library.name) else ():
         at = tempfile.mkdtemp(dir=folder)
         ran = run_of(library, recorder, row, words or row.words, at)
         page, _ = page_of(at, ran.ending.value, ran.status)

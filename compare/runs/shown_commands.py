@@ -47,7 +47,7 @@ EXCERPTS = {
                         'all 12 runs were tried', 'not everything was tried', 'outcome 0 runs 3', '  decided at depth 9', 'rendezvous outcomes 2', 'words and picture take', 'JSON requests', 'end 0 leaves 3', 'proving '),
     # the second is a screen of a terminal, which views.py compares
     'docs/CONSOLE.md': ('help lists ', '            4  var x; '),
-    'docs/FROM_A_RUN.md': ('mpdrec stands ', 'recv x from any tag 2 '),
+    'docs/FROM_A_RUN.md': ('first run: ', 'recv x from any tag 2 '),
     'docs/GATE.md': ('fn: ',),
     'docs/PAGES.md': ('{"format":', '{"s":"local 2"'),
     'docs/PICTURES.md': ('<line class', '0 1 2')}

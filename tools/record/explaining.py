@@ -58,8 +58,9 @@ class Explained:
         return [[int(word.split()[1]) for word in line.split(', ')][:-1] for line in told]
 
     def sent_to_nobody(self, run: Run) -> List[str]:
-        """Sends to MPI_PROC_NULL that would be what a blocked receive waits for."""
-        waited = [self.call_in(line) for line in self.leaf.told if ': for a send of ' in line]
+        """Sends to MPI_PROC_NULL that would be what a blocked receive waits for, where nothing misses it nearly."""
+        after = [*self.leaf.told[1:], '']
+        waited = [self.call_in(line) for line, then in zip(self.leaf.told, after) if ': for a send of ' in line and 'nearest miss' not in then]
         kinds = Counter(f'{send.told()} of rank {send.rank} sends to MPI_PROC_NULL, with tag {send.send_tag}{send.on}'
                         for send in run.all_calls() if send.is_send and send.fields['to'] == NOBODY
                         if any(call and call.comm == send.comm and could_take(call, (str(send.rank), str(send.send_tag))) for call in waited))

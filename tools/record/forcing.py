@@ -112,7 +112,7 @@ def built_recorder(compiler: List[str], folder: str) -> str:
     """The recorder, built for the library of a compiler."""
     path = os.path.join(os.path.abspath(folder), 'librecord.so')
     try:
-        ran = subprocess.run([*compiler, '-shared', '-fPIC', '-O2', os.path.join(HERE, 'record.c'), '-o', path],
+        ran = subprocess.run([*compiler, '-shared', '-fPIC', '-O1', os.path.join(HERE, 'record.c'), '-o', path],
                              capture_output=True, text=True, check=False)
     except OSError as why:
         raise Refused(f'no compiler: {why}') from None

@@ -1,7 +1,7 @@
 """What must be known of a whole run before a script of it is written: what its wildcards took, its tags, and its collectives."""
 
 from itertools import islice
-from typing import Dict, List, Optional, Set, Tuple
+from typing import Any, Dict, List, Optional, Set, Tuple
 
 from records import ANY, WORLD, Call, Message, Refused, Run
 
@@ -40,6 +40,7 @@ class Plan:
             if call.comm not in run.comms:
                 raise Refused(f'{call.told()}: its communicator is not known')
         self.tags: Dict[Tuple[str, str], int] = {}
+        self.written: Dict[Tuple[int, bool], Any] = {}      # the statements of a rank, as taken or as asked, once they are written
         self.took: Dict[Tuple[int, int], Message] = {}
         self.turn: Dict[Tuple[int, int], int] = {}
         self.fused, self.received_before, self.clashing = Chosen(), Chosen(), Chosen()

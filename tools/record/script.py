@@ -274,16 +274,24 @@ class RankWriter:
             self.pass_one('recv', other, self.plan.collective_tag(begun), call, note)
 
 
+def written(plan: Plan, rank: int, is_asked: bool) -> RankWriter:
+    """The statements of a rank, with its repeated blocks as loops; they are written once for each reading."""
+    if (rank, is_asked) not in plan.written:
+        writer = plan.written[rank, is_asked] = RankWriter(plan, rank, is_asked)
+        writer.write()
+        writer.lines = folded(writer.lines)
+    return plan.written[rank, is_asked]
+
+
 def script_of(plan: Plan, asked: AbstractSet[int]) -> Script:
     """The script of a run, in which wildcards of the ranks `asked` stay, and those of others are as taken."""
     run, body, sends, receives, handles = plan.run, [], {}, {}, 0
     for rank in range(run.size):
-        writer = RankWriter(plan, rank, rank in asked)
-        writer.write()
+        writer = written(plan, rank, rank in asked)
         sends.update({(rank, number): call for number, call in writer.sends.items()})
         receives.update({(rank, number): call for number, call in writer.receives.items()})
         handles = max(handles, writer.most_handles)
-        body += [Line(f'if rank == {rank} {{'), *folded(writer.lines), Line('}')]
+        body += [Line(f'if rank == {rank} {{'), *writer.lines, Line('}')]
     lines = [*head_of(run, asked), *declarations(body, handles), *body]
     statements = sum(line.text not in ('', '}') for line in body)
     return Script('\n'.join(laid_out(lines)) + '\n', statements, sends, receives, plan.told_tags())
