@@ -37,7 +37,7 @@ PAGES = (
     Shown('extremes', 3, ('ranks 0, 1 at extremes.c:16 MPI_Reduce: MPI_MAX', 'rank 2 at extremes.c:16 MPI_Reduce: MPI_MIN',
                           'rank 0 at extremes.c:18 MPI_Bcast: 1 MPI_LONG', 'ranks 1, 2 at extremes.c:20 MPI_Bcast: 1 MPI_DOUBLE')),
     Shown('teams', 3, ('COMM      communicator team of teams.c:15 MPI_Comm_split is never freed, by ranks 0 to 2',)),
-    Shown('finish', 3, ('FINALIZE  ranks 1, 2 end without MPI_Finalize, after finish.c:12 MPI_Send',)),
+    Shown('finish', 3, ('FINALIZE  rank 2 ends without MPI_Finalize, after finish.c:17 MPI_Barrier',)),
     # Each of three ranks changes its last cell between two waits, in each of three turns.
     Shown('wave', 3, ('BUFFER    wave.c:18 MPI_Isend of ranks 0 to 2: what it still sends is changed between wave.c:23 MPI_Wait and '
                       'wave.c:25 MPI_Wait, 9 times',)),

@@ -19,7 +19,7 @@ sys.path.insert(0, os.path.dirname(os.path.dirname(os.path.abspath(__file__))))
 
 from libraries.library_runs import ENVIRONMENT, LIBRARIES
 from places import TOP
-from rows.worked_pages import PAGES
+from rows.worked_pages import PAGES, Shown
 
 sys.path.insert(0, f'{TOP}/tools/record')
 
@@ -120,6 +120,14 @@ def wrong_live(library, recorder, row, folder):
         page, _ = page_of(at, ran.ending.value, ran.status)
         problems += [f'{row.name}{form}: {wrong}' for wrong in wrong_told(row, form, page)]
     return problems
+
+
+def wrong_right(library, recorder, folder):
+    """What is wrong with the page of a program of many kinds of calls, all of them right."""
+    at, row = tempfile.mkdtemp(dir=folder), Shown('calls', 3, ())
+    ran = run_of(library, recorder, row, (), at)
+    page, _ = page_of(at, ran.ending.value, ran.status)
+    return [f'calls: {wrong}' for wrong in wrong_told(row, '.mended', page) + ([] if ran.ending == Ending.WELL else page.lines)]
 
 
 def wrong_interrupt(library, folder):

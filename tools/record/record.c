@@ -929,7 +929,7 @@ static void put_scattered(int is_root, int n, MPI_Datatype t, const void *o, int
     put_part("in", o, m, u);
 }
 
-static int freed_communicator(MPI_Comm *handle)
+static void freed_communicator(const MPI_Comm *handle)
 {
     struct communicator *c = communicator_of(*handle);
     if (c) {
@@ -937,7 +937,6 @@ static int freed_communicator(MPI_Comm *handle)
         end_line();
         c->handle = MPI_COMM_NULL;
     }
-    return 0;
 }
 
 static int named_communicator(MPI_Comm handle, const char *name)
@@ -1053,8 +1052,13 @@ ROW(Testall, (int n, R r[], int *f, S s[]), (n, r, f, s), waited(WAITING(Testall
 ROW(Testany, (int n, R r[], int *x, int *f, S *s), (n, r, x, f, s), waited(WAITING(Testany, ANY, 1, n), f, NULL, x, ONE(s)))
 ROW(Testsome, (int n, R r[], int *m, int x[], S s[]), (n, r, m, x, s), waited(WAITING(Testsome, SOME, 1, n), NULL, m, x, MANY(s)))
 ROW(Request_free, (R *r), (r), freed(HERE, r))
-ROW(Comm_free, (MPI_Comm *made), (made), (freed_communicator(made), MADE(Comm_free, (made))))
-ROW(Comm_disconnect, (MPI_Comm *made), (made), (freed_communicator(made), MADE(Comm_disconnect, (made))))
+/* A library may free what the program made, in a call of its own. */
+#define FREES(name) NAMED(name, (MPI_Comm *made)) { \
+    if (!is_other_thread()) \
+        freed_communicator(made); \
+    return MADE(name, (made)); }
+FREES(Comm_free)
+FREES(Comm_disconnect)
 ROW(Comm_set_name, (MPI_Comm c, const char *name), (c, name), (named_communicator(c, name), MADE(Comm_set_name, (c, name))))
 PERSISTENT(Send_init, "Isend", const)
 PERSISTENT(Ssend_init, "Issend", const)
