@@ -48,5 +48,7 @@ PAGES = (
     Shown('halo', 3, ('HANG      it hangs, whatever is buffered:', 'halo.c:23 MPI_Irecv, irecv from 0 tag 1: for a send of rank 0 with tag 1', ': another tag')),
     Shown('solver', 3, ('DIFFER    collectives differ at one turn on MPI_COMM_WORLD:',)),
     Shown('sweep', 3, ('LEFT      nobody receives sweep.c:',)),
+    # Rank 1 ends by itself before MPI_Init, and the others wait for it there, or are ended.
+    Shown('settings', 3, ('rank 1 left no record: it ended before MPI_Init, by exit 3 at settings.c:12',), patience=0.3),
     Shown('table', 3, ('rank 1 ended by SIGSEGV at table.c:10, after table.c:22 MPI_Bcast',)),
 )

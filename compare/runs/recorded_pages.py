@@ -60,8 +60,9 @@ def sections_of(text):
     return dict(zip(parts[1::2], parts[2::2]))
 
 
-def wrong_commands(folder, lines):
-    """What is wrong with the commands of a page: in its mode each finds a hang of the matches of the run if the page tells one."""
+def wrong_commands(folder, form, lines):
+    """What is wrong with the commands of a page: in its mode each finds a hang of the matches of the run if the page tells one, and nothing
+    but an end that is done if the program is mended."""
     problems, hangs = [], any(line.startswith('HANG ') and 'if ' not in line for line in lines)
     for path, mode in {found.groups() for found in map(COMMAND.search, lines) if found}:
         if path.endswith('run.mpd'):
@@ -70,6 +71,8 @@ def wrong_commands(folder, lines):
         ends = {leaf.outcome for leaf in checking.report_of(f'{folder}/{path}', mode, 10).leaves}
         if ('deadlock' in ends) != wanted and not any(line.startswith('UNSURE') for line in lines):
             problems.append(f'{path} in {mode}: ends {ends}, and the page tells a hang: {wanted}')
+        if form and ends != {'done'}:
+            problems.append(f'{path} in {mode}: ends {ends} of a right program')
     return problems
 
 
@@ -85,7 +88,7 @@ def wrong_form(row, form, folder):
     ending, _, status = sections['ending'].strip().rpartition(' ')
     page, lines = page_of(f'{folder}/{name}', ending, int(status))
     problems = [] if '\n'.join(lines) + '\n' == sections['page'] else ['another page: ' + '\n'.join(lines)]
-    problems += wrong_commands(f'{folder}/{name}', lines)
+    problems += wrong_commands(f'{folder}/{name}', form, lines)
     return [f'{name}: {problem}' for problem in problems + wrong_told(row, form, page)]
 
 
@@ -155,7 +158,7 @@ def store(row, folder):
         at = tempfile.mkdtemp(dir=folder)
         ran = run_of(library, recorder, row, words or row.words, at)
         with open(f'{at}/run/printed', encoding='utf-8', errors='replace') as file:
-            printed = re.sub(r'\[\w+:\d+\]', '[host:1]', file.read())
+            printed = re.sub(r'RUNNING AT \S+', 'RUNNING AT host', re.sub(r'\[\w+:\d+\]', '[host:1]', file.read()))
         with open(f'{at}/run/printed', 'w', encoding='utf-8') as file:
             file.write(printed)
         _, lines = page_of(at, ran.ending.value, ran.status)

@@ -214,10 +214,11 @@ def run(command: Command, folder: str, forced: Optional[Forced] = None) -> Ran:
                                        stderr=subprocess.STDOUT, start_new_session=True)
         except OSError as why:
             raise Refused(f'no starter: {why}') from None
+        began = time.monotonic()
         try:
             ran = watched(process, command, folder)
         except KeyboardInterrupt:
-            ran = Ran(folder, Ending.BROKEN, -1, 0.0)
+            ran = Ran(folder, Ending.BROKEN, -1, time.monotonic() - began)
         finally:
             end(process)
     settle(folder)

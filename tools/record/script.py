@@ -7,7 +7,6 @@ do then is not known, and nothing is concluded from what the script does afterwa
 """
 
 import re
-from collections import defaultdict
 from dataclasses import dataclass
 from enum import Enum
 from typing import AbstractSet, Dict, List, NamedTuple, Optional, Tuple
