@@ -33,7 +33,7 @@ from places import TOP
 from rows.worked_pages import PAGES
 from rows.worked_records import CARRIED, MESSAGES, RUNS, STATEMENTS, UNSEEN, UNSEEN_ENDS
 
-from runs.recorded_pages import ALARMS, wrong_interrupt, wrong_live, wrong_pages, wrong_right
+from runs.recorded_pages import ALARMS, wrong_held, wrong_interrupt, wrong_live, wrong_pages, wrong_right
 
 sys.path.insert(0, f'{TOP}/tools/record')
 
@@ -304,8 +304,8 @@ def under(library, chosen, folder):
     for row in PAGES:
         problems += wrong_live(library, recorder, row, folder)
         met['programs'] += 1
-    problems += wrong_interrupt(library, folder) + wrong_right(library, recorder, folder)
-    met['programs'] += 2
+    problems += wrong_interrupt(library, folder) + wrong_right(library, recorder, folder) + wrong_held(library, recorder, folder)
+    met['programs'] += 3
     for wrong in (wrong_printed, wrong_old_force, wrong_fortran):
         found = wrong(library, recorder, folder)
         problems += found or []

@@ -26,9 +26,11 @@ sys.path.insert(0, f'{TOP}/tools/record')
 import checking
 import forcing
 from forcing import Ending, Ran
+from matching import others
 from page import Page
 from records import Refused, read_run
-from report import tell_end, tell_record
+from report import recorded, tell_end, tell_record
+from trying import tell_tries
 
 STORED = f'{TOP}/compare/recorded/pages'
 SOURCES = f'{TOP}/compare/recorded/programs'
@@ -131,6 +133,22 @@ def wrong_right(library, recorder, folder):
     ran = run_of(library, recorder, row, (), at)
     page, _ = page_of(at, ran.ending.value, ran.status)
     return [f'calls: {wrong}' for wrong in wrong_told(row, '.mended', page) + ([] if ran.ending == Ending.WELL else page.lines)]
+
+
+def wrong_held(library, recorder, folder):
+    """What is wrong with what is told of a program that hangs if a look comes too early, and of its mended form: only the first hangs where
+    a look is held back."""
+    problems = []
+    for form, words in FORMS:
+        at = tempfile.mkdtemp(dir=folder)
+        ran = run_of(library, recorder, Shown('decide', 3, ()), words, at)
+        plan, page = recorded(read_run(ran.folder)).plan, Page()
+        command = forcing.Command([f'{at}/decide'], 3, [library.starter], recorder, 1.5, 60.0)
+        tell_tries(page, command, 4, ran, plan, others(plan))
+        hung = [line for line in page.lines if re.search(r'hung.*: rank 1 stands at decide.c:35 MPI_Recv$', line)]
+        if bool(hung) == bool(form) or page.is_bad == bool(form) or 'looks held back' not in page.lines[0]:
+            problems.append(f'decide{form}: {page.lines}')
+    return problems
 
 
 def wrong_interrupt(library, folder):

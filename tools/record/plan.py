@@ -176,7 +176,7 @@ class Plan:
     def find_notes(self) -> None:
         looks = sorted({call.told() for call in self.run.all_calls() if call.looks} | {call.told() for call in self.run.looks if call})
         if looks:
-            self.note(f'{", ".join(looks)}: what the program does may hang on when it looks; that is not tried')
+            self.note(f'{", ".join(looks)}: what the program does may hang on when it looks; of that --try tries the first looks by MPI_Iprobe alone')
         several = sorted({call.told() for call in self.run.all_calls() if call.waits_for_one and not call.looks})
         if several:
             self.note(f'{", ".join(several)}: of several requests the one that was done is waited for; others are not tried')

@@ -22,7 +22,7 @@
    the call in which a rank stands, even if that rank is killed at once.
 
    MPDREC_FORCE names a file of lines "RANK CALL SOURCE TAG": this call then takes a message of that source and tag
-   only. With MPDREC_SYNCHRONOUS each standard send is a synchronous one. Calls of one thread are recorded. A process that
+   only. With -2 in place of both, an MPI_Iprobe that would be this call finds nothing yet. With MPDREC_SYNCHRONOUS each standard send is a synchronous one. Calls of one thread are recorded. A process that
    ends before MPI_Init leaves a file early.N in place of rank.N, if its starter tells its number. */
 #define _GNU_SOURCE
 #include <mpi.h>
@@ -407,12 +407,36 @@ static void read_forced(const char *path)
         fclose(in);
 }
 
+/* What stands for a source and a tag where a look is held back, and for how many seconds it is, at most. */
+#define HELD (-2)
+#define HELD_SECONDS 0.3
+
+/* Whether a look that finds something is to find nothing: the first place of the program that would be this call, till the
+   rank has made another. A message may always come later, so a right program doesn't mind. */
+static int is_held(int call, const void *caller)
+{
+    static const void *place;
+    static int held = -1;
+    static double since;
+    for (int i = 0; i < forced_count; i++) {
+        if (forced[i].rank != me || forced[i].call != call || forced[i].source != HELD)
+            continue;
+        if (held != call) {
+            held = call;
+            place = caller;
+            since = PMPI_Wtime();
+        }
+        return caller == place && PMPI_Wtime() - since < HELD_SECONDS;
+    }
+    return 0;
+}
+
 /* A receive that can't take that message stays as it is: the program is another than the one that was recorded. */
 static void force(int call, MPI_Comm comm, int *from, int *tag)
 {
     const struct communicator *c = communicator_of(comm);
     for (int i = 0; i < forced_count; i++) {
-        if (forced[i].rank != me || forced[i].call != call || (*tag != MPI_ANY_TAG && *tag != forced[i].tag)
+        if (forced[i].rank != me || forced[i].call != call || forced[i].source == HELD || (*tag != MPI_ANY_TAG && *tag != forced[i].tag)
                 || (*from != MPI_ANY_SOURCE && in_world(c, *from) != forced[i].source))
             continue;
         if (*from == MPI_ANY_SOURCE)
@@ -763,6 +787,8 @@ static int probed(struct probing p, int *flag, MPI_Message *message, MPI_Status 
         error = message ? MADE(Improbe, (from, tag, p.comm, flag, message, s)) : MADE(Iprobe, (from, tag, p.comm, flag, s));
     else
         error = message ? MADE(Mprobe, (from, tag, p.comm, message, s)) : MADE(Probe, (from, tag, p.comm, s));
+    if (flag && *flag && !message && is_held(calls, p.caller))
+        *flag = 0;
     if (!flag || *flag)
         return found(flag ? begin_probe(p) : call, p.comm, s, error);
     looked(p.name, p.caller);

@@ -20,6 +20,8 @@ Progress = Callable[[str], None]
 # So many lines that a run printed, and others did not, are told, up to so many characters each.
 MOST_LINES, MOST_LENGTH = 3, 100
 HUNG = 'hung'
+# What stands for a source and a tag of a look that is held back (record.c).
+HELD = (-2, -2)
 
 
 @dataclass
@@ -42,11 +44,20 @@ def is_shown(forced: Forced, plans: List[Plan]) -> bool:
                for plan in plans)
 
 
+def held_back(plan: Plan) -> List[Other]:
+    """Looks that found something, and that can be held back: of each place the first, where the rank looks at others, too."""
+    found = []
+    for calls in plan.run.calls:
+        first = {call.place: call for call in reversed(calls) if call.name == 'Iprobe'}
+        found += [Other([], {(call.rank, call.number): HELD}) for call in first.values() if len(first) > 1]
+    return found
+
+
 def not_followed(run: Run, forced: Forced) -> bool:
     """Whether a rank stands at a receive that was forced, or waits for one: then the run did not go the way that it should."""
     for call in run.standing():
         asked = {call.number} | {other.number for other in run.calls[call.rank] if other.name == 'Irecv' and other.request in call.requests}
-        if any((call.rank, number) in forced for number in asked):
+        if any(forced.get((call.rank, number), HELD) != HELD for number in asked):
             return True
     return False
 
@@ -56,11 +67,12 @@ class Tries:
 
     def __init__(self, command: Command, folder: str, first: Plan, found: Others, read: Callable[[str], Run] = read_run):
         self.command, self.folder, self.read = command, folder, read
-        self.plans, self.waiting = [first], list(found.found)
+        self.plans, self.waiting = [first], [*found.found, *held_back(first)]
         self.keys: Set[Tuple] = set()
         self.took = taken_kinds(first)
         self.tried: List[Tried] = []
         self.is_whole = found.is_whole
+        self.has_held = False               # whether a look was held back in one of them
 
     def next(self) -> Optional[Other]:
         """What is tried next; None if nothing is left."""
@@ -75,6 +87,7 @@ class Tries:
     def run(self, other: Other) -> None:
         """Runs the program with these matches forced, and looks what else it could have taken then."""
         folder = os.path.join(self.folder, str(len(self.tried) + 1))
+        self.has_held = self.has_held or HELD in other.forced.values()
         ran = forcing.run(self.command, folder, other.forced)
         if ran.ending == Ending.BROKEN:
             raise KeyboardInterrupt
@@ -201,7 +214,8 @@ def tell_tries(page: Page, command: Command, most: int, first: Ran, plan: Plan, 
     left = 0 if tries.next() is None else len(tries.waiting) + 1
     if tries.tried or left:
         more = f'; {left} more could be tried' if left else '; nothing is left to try' if tries.is_whole and is_over else ''
-        page.tell('TRIED', f'{len(tries.tried)} run{"s" * (len(tries.tried) != 1)} with messages forced{more}{"" if is_over else "; interrupted"}')
+        how = 'messages forced' + (' or looks held back' if tries.has_held else '')
+        page.tell('TRIED', f'{len(tries.tried)} run{"s" * (len(tries.tried) != 1)} with {how}{more}{"" if is_over else "; interrupted"}')
     by_end: Dict[Tuple, List[Tried]] = defaultdict(list)
     for tried in tries.tried:
         by_end[tried.came, tried.stands].append(tried)
