@@ -45,7 +45,6 @@ LEFT_OUT = {
         **dict.fromkeys(('read_script_for', 'read_code_for', 'code_of_text', 'text_with_ranks'), 'called by the program with --ranks')},
     'mpd_options': {**dict.fromkeys(('clash', 'word'), 'called by check'), 'wants_traps': 'takes no memory'},
     'mpd_witness': dict.fromkeys(('written_witness_is_read', 'written_witness_of_a_leaf_is_read'), 'a law'),
-    'mpd_c': {'text_ends_its_last_line': 'a law'},
     'mpd_explore': {
         **dict.fromkeys(('push_choices', 'ends_with_report'), 'called by check'), **dict.fromkeys(('witness_here', 'ends_with'), 'called by explore'),
         **dict.fromkeys(('same_trap', 'same_ending', 'are_asked', 'asks', 'searched'), 'takes no memory'),

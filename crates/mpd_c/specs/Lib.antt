@@ -1,7 +1,1 @@
-pub mod CRows
-pub mod CText
-pub mod Expressions
-pub mod Pieces
-pub mod Statements
-pub mod TextLaws
 pub mod Written

@@ -1,17 +1,18 @@
--- What is written of a script in C.
-use Rattle.std.specs.Prelude.{◌≡◌, ◌+◌, Result, Ok, Err}
+-- Whether the text of a script in C was written.
+use Rattle.std.specs.Prelude.{◌≡◌, ℕ, ◌+◌, List, Result, Ok, Err}
 use Rattle.std.specs.Io.KnownBytes.{Appends}
 use Rattle.mpd_model.specs.devices.Seen.{SinkSeen}
 use Rattle.mpd_lines.specs.declared.engine.EngineFault.{EngineFault}
-use Rattle.mpd_lines.specs.declared.engine.EngineFault.TheVariants.{ReadFailed, WriteFailed, TooManyTurns, Memory}
+use Rattle.mpd_lines.specs.declared.engine.EngineFault.TheVariants as fault
 use Rattle.mpd_lines.specs.Telling.{AppendsPart}
-use Rattle.mpd_model.specs.script.Program.{Program}
-use Rattle.mpd_c.specs.CText.{c_text}
 
--- the whole text of the script was written, or a part of it until a write failed; or nothing was, since memory was refused
-abbrev pub WroteC : Program → SinkSeen → SinkSeen → Result (Unit {0}) EngineFault → Type 0
-WroteC p old new (Ok u) = Appends old.contents new.contents (c_text p) × (new.failures ≡ old.failures)
-WroteC p old new (Err WriteFailed) = AppendsPart old.contents new.contents (c_text p) × (new.failures ≡ old.failures + 1)
-WroteC p old new (Err Memory) = new ≡ old
-WroteC p old new (Err ReadFailed) = ⊥
-WroteC p old new (Err TooManyTurns) = ⊥
+-- A text was added, or a part of one until a write failed; or nothing was, for want of memory.
+abbrev pub WroteC : SinkSeen → SinkSeen → Result (Unit {0}) EngineFault → Type 0
+WroteC old new (Ok u) =
+    (text : List ℕ) × Appends old.contents new.contents text × (new.failures ≡ old.failures)
+WroteC old new (Err fault.WriteFailed) =
+    (text : List ℕ) × AppendsPart old.contents new.contents text
+    × (new.failures ≡ old.failures + 1)
+WroteC old new (Err fault.Memory) = new ≡ old
+WroteC old new (Err fault.ReadFailed) = ⊥
+WroteC old new (Err fault.TooManyTurns) = ⊥

@@ -1,62 +1,223 @@
-//! The text of expressions and places.
+//! Names, expressions and places of a script in C.
 
-ghost use Rattle.std.specs.Prelude.{◌≡◌, ◌++◌, OnOk, slice_get, string_bytes};
-ghost use Rattle.mpd_c.specs.Expressions.{c_handles, c_name, c_target, c_term, c_whole, is_comparison, is_logical, is_number, is_scalar, macro_text, size_of, stands_between};
-
-use crate::piece::{Piece, text_of};
 use mpd_model::{BinaryOp, Decl, Expr, ExprNode, Place, Target, UnaryOp};
-use std::alloc::AllocError;
+use std::fmt;
 
-/// `rank`, `size` and a variable that is no array.
-fn is_scalar(expr: &Expr) -> bool
-    ensures { result ≡ is_scalar expr.now }
-{
-    matches!(
-        &expr.node,
-        ExprNode::Rank | ExprNode::Size | ExprNode::Cell(_)
-    )
+/// The declarations of a script, which give places their names.
+#[derive(Clone, Copy)]
+pub(crate) struct Names<'a> {
+    pub(crate) decls: &'a [Decl],
 }
 
-/// A number.
-fn is_number(expr: &Expr) -> bool
-    ensures { result ≡ is_number expr.now }
-{
-    matches!(&expr.node, ExprNode::Number(_))
+impl<'a> Names<'a> {
+    /// The name that a place was declared with, as one of C.
+    fn name(self, place: Place) -> NameInC<'a> {
+        NameInC { names: self, place }
+    }
+
+    /// The size that a place was declared with, if it has one.
+    fn size(self, place: Place) -> Option<usize> {
+        match self.decls.get(place.declaration) {
+            None => None,
+            Some(decl) => decl.size,
+        }
+    }
+
+    /// An expression that is no operand.
+    pub(crate) fn expr(self, expr: &'a Expr) -> ExprInC<'a> {
+        ExprInC { names: self, expr }
+    }
+
+    /// A place that a statement names, of a variable or a handle, with its index.
+    pub(crate) fn target(self, target: &'a Target) -> TargetInC<'a> {
+        TargetInC {
+            names: self,
+            target,
+        }
+    }
+
+    /// All handles of a declaration, and how many there are.
+    pub(crate) fn handles(self, handles: Place) -> HandlesInC<'a> {
+        HandlesInC {
+            names: self,
+            handles,
+        }
+    }
+
+    /// The source of a receive, which may be any rank.
+    pub(crate) fn source(self, from: &'a Option<Expr>) -> CheckedInC<'a> {
+        CheckedInC {
+            names: self,
+            expr: from,
+            check: "as_rank",
+            any: "MPI_ANY_SOURCE",
+        }
+    }
+
+    /// The tag of a receive, which may be any.
+    pub(crate) fn tag(self, tag: &'a Option<Expr>) -> CheckedInC<'a> {
+        CheckedInC {
+            names: self,
+            expr: tag,
+            check: "as_tag",
+            any: "MPI_ANY_TAG",
+        }
+    }
 }
 
-/// `||` and `&&`.
-fn is_logical(op: BinaryOp) -> bool
-    ensures { result ≡ is_logical op }
-{
-    matches!(op, BinaryOp::Or | BinaryOp::And)
+/// A name in C.
+#[derive(Clone, Copy)]
+struct NameInC<'a> {
+    names: Names<'a>,
+    place: Place,
 }
 
-/// A comparison.
-fn is_comparison(op: BinaryOp) -> bool
-    ensures { result ≡ is_comparison op }
-{
-    matches!(
-        op,
-        BinaryOp::Equal
-            | BinaryOp::NotEqual
-            | BinaryOp::Less
-            | BinaryOp::AtMost
-            | BinaryOp::Greater
-            | BinaryOp::AtLeast
-    )
+impl fmt::Display for NameInC<'_> {
+    fn fmt<W: fmt::Write>(&self, f: &mut fmt::Formatter<W>) -> fmt::Result {
+        match self.names.decls.get(self.place.declaration) {
+            None => write!(f, "my_"),
+            Some(decl) => write!(f, "my_{}", decl.name),
+        }
+    }
+}
+
+/// An expression in C, which is no operand.
+#[derive(Clone, Copy)]
+pub(crate) struct ExprInC<'a> {
+    names: Names<'a>,
+    expr: &'a Expr,
+}
+
+impl fmt::Display for ExprInC<'_> {
+    fn fmt<W: fmt::Write>(&self, f: &mut fmt::Formatter<W>) -> fmt::Result {
+        write_expr(f, self.names, self.expr, false)
+    }
+}
+
+/// Writes an expression; as an operand of an operator of C, in brackets if it has one itself.
+fn write_expr<W: fmt::Write>(
+    f: &mut fmt::Formatter<W>,
+    names: Names,
+    expr: &Expr,
+    is_operand: bool,
+) -> fmt::Result {
+    match &expr.node {
+        ExprNode::Number(value) => write!(f, "{value}"),
+        ExprNode::Rank => write!(f, "rank"),
+        ExprNode::Size => write!(f, "size"),
+        ExprNode::Cell(place) => write!(f, "{}", names.name(*place)),
+        ExprNode::Element(place, index) => {
+            write!(f, "{}[within(", names.name(*place))?;
+            write_expr(f, names, index, false)?;
+            write!(f, ", {})]", place.cells)
+        }
+        ExprNode::Unary(UnaryOp::Negate, operand) => {
+            write!(f, "negate(")?;
+            write_expr(f, names, operand, false)?;
+            write!(f, ")")
+        }
+        ExprNode::Unary(UnaryOp::Not, operand) => {
+            write!(f, "!")?;
+            write_expr(f, names, operand, true)
+        }
+        ExprNode::Binary(op, left, right) => {
+            let stands = stands_between(*op, left, right);
+            let (before, between, after) = match (stands, is_operand) {
+                (false, _) => (macro_name(*op), ", ", ")"),
+                (true, true) => ("(", op.spaced(), ")"),
+                (true, false) => ("", op.spaced(), ""),
+            };
+            write!(f, "{before}")?;
+            write_expr(f, names, left, stands)?;
+            write!(f, "{between}")?;
+            write_expr(f, names, right, stands)?;
+            write!(f, "{after}")
+        }
+    }
+}
+
+/// A place with its index in C.
+#[derive(Clone, Copy)]
+pub(crate) struct TargetInC<'a> {
+    names: Names<'a>,
+    target: &'a Target,
+}
+
+impl fmt::Display for TargetInC<'_> {
+    fn fmt<W: fmt::Write>(&self, f: &mut fmt::Formatter<W>) -> fmt::Result {
+        let target = self.target;
+        let place = target.place;
+        let name = self.names.name(place);
+        match &target.index {
+            None => write!(f, "{name}"),
+            Some(index) => {
+                let index = self.names.expr(index);
+                write!(f, "{name}[within({index}, {})]", place.cells)
+            }
+        }
+    }
+}
+
+/// The handles of a declaration in C, and how many there are.
+#[derive(Clone, Copy)]
+pub(crate) struct HandlesInC<'a> {
+    names: Names<'a>,
+    handles: Place,
+}
+
+impl fmt::Display for HandlesInC<'_> {
+    fn fmt<W: fmt::Write>(&self, f: &mut fmt::Formatter<W>) -> fmt::Result {
+        let name = self.names.name(self.handles);
+        match self.names.size(self.handles) {
+            None => write!(f, "&{name}, 1"),
+            Some(count) => write!(f, "{name}, {count}"),
+        }
+    }
+}
+
+/// A source or a tag in C, which is checked, or any.
+#[derive(Clone, Copy)]
+pub(crate) struct CheckedInC<'a> {
+    names: Names<'a>,
+    expr: &'a Option<Expr>,
+    check: &'static str,
+    any: &'static str,
+}
+
+impl fmt::Display for CheckedInC<'_> {
+    fn fmt<W: fmt::Write>(&self, f: &mut fmt::Formatter<W>) -> fmt::Result {
+        match self.expr {
+            None => write!(f, "{}", self.any),
+            Some(expr) => write!(f, "{}({})", self.check, self.names.expr(expr)),
+        }
+    }
 }
 
 /// Whether C's own operator between these operands evaluates them in the order of the script.
-fn stands_between(op: BinaryOp, left: &Expr, right: &Expr) -> bool
-    ensures { result ≡ stands_between op left.now right.now }
-{
-    is_logical(op) || is_comparison(op) && is_scalar(left) && is_number(right)
+fn stands_between(op: BinaryOp, left: &Expr, right: &Expr) -> bool {
+    match op {
+        BinaryOp::Or | BinaryOp::And => true,
+        BinaryOp::Equal
+        | BinaryOp::NotEqual
+        | BinaryOp::Less
+        | BinaryOp::AtMost
+        | BinaryOp::Greater
+        | BinaryOp::AtLeast => {
+            matches!(
+                &left.node,
+                ExprNode::Rank | ExprNode::Size | ExprNode::Cell(_)
+            ) && matches!(&right.node, ExprNode::Number(_))
+        }
+        BinaryOp::Add
+        | BinaryOp::Subtract
+        | BinaryOp::Multiply
+        | BinaryOp::Divide
+        | BinaryOp::Remainder => false,
+    }
 }
 
 /// The macro of an operator that isn't written as one of C, with its bracket.
-fn macro_name(op: BinaryOp) -> &'static str
-    ensures { result.now ≡ macro_text op }
-{
+fn macro_name(op: BinaryOp) -> &'static str {
     match op {
         BinaryOp::Or | BinaryOp::And => "(",
         BinaryOp::Equal => "EQUAL(",
@@ -70,124 +231,5 @@ fn macro_name(op: BinaryOp) -> &'static str
         BinaryOp::Multiply => "MULTIPLY(",
         BinaryOp::Divide => "DIVIDE(",
         BinaryOp::Remainder => "REMAINDER(",
-    }
-}
-
-/// Adds the name that a place was declared with, as one of C.
-pub(crate) fn push_name(out: &mut String, decls: &[Decl], place: Place) -> Result<(), AllocError>
-    ensures { OnOk result (string_bytes out.new ≡ string_bytes out.old ++ c_name decls.now place) }
-{
-    out.push_str(text_of(Piece::My))?;
-    if let Some(decl) = decls.get(place.declaration) {
-        out.push_str(&decl.name)?;
-    }
-    Ok(())
-}
-
-/// Adds an expression; as an operand of an operator of C, in brackets if it has one itself.
-fn push_term(
-    out: &mut String,
-    decls: &[Decl],
-    is_operand: bool,
-    expr: &Expr,
-) -> Result<(), AllocError>
-    ensures { OnOk result (string_bytes out.new ≡ string_bytes out.old ++ c_term decls.now is_operand expr.now) }
-{
-    match &expr.node {
-        ExprNode::Number(value) => write!(out, "{value}"),
-        ExprNode::Rank => out.push_str("rank"),
-        ExprNode::Size => out.push_str("size"),
-        ExprNode::Cell(place) => push_name(out, decls, *place),
-        ExprNode::Element(place, index) => {
-            push_name(out, decls, *place)?;
-            out.push_str(text_of(Piece::Within))?;
-            push_term(out, decls, false, index)?;
-            let cells = place.cells;
-            write!(out, ", {cells})]")
-        }
-        ExprNode::Unary(UnaryOp::Negate, operand) => {
-            out.push_str("negate(")?;
-            push_term(out, decls, false, operand)?;
-            out.push_str(")")
-        }
-        ExprNode::Unary(UnaryOp::Not, operand) => {
-            out.push_str("!")?;
-            push_term(out, decls, true, operand)
-        }
-        ExprNode::Binary(op, left, right) => {
-            if !stands_between(*op, left, right) {
-                out.push_str(macro_name(*op))?;
-                push_term(out, decls, false, left)?;
-                out.push_str(", ")?;
-                push_term(out, decls, false, right)?;
-                return out.push_str(")");
-            }
-            if is_operand {
-                out.push_str("(")?;
-            }
-            push_term(out, decls, true, left)?;
-            out.push_str(op.spaced())?;
-            push_term(out, decls, true, right)?;
-            if is_operand {
-                out.push_str(")")?;
-            }
-            Ok(())
-        }
-    }
-}
-
-/// Adds an expression that is no operand.
-pub(crate) fn push_expr(out: &mut String, decls: &[Decl], expr: &Expr) -> Result<(), AllocError>
-    ensures { OnOk result (string_bytes out.new ≡ string_bytes out.old ++ c_whole decls.now expr.now) }
-{
-    push_term(out, decls, false, expr)
-}
-
-/// Adds a place that a statement names, of a variable or a handle, with its index.
-pub(crate) fn push_target(
-    out: &mut String,
-    decls: &[Decl],
-    target: &Target,
-) -> Result<(), AllocError>
-    ensures { OnOk result (string_bytes out.new ≡ string_bytes out.old ++ c_target decls.now target.now) }
-{
-    push_name(out, decls, target.place)?;
-    if let Some(index) = &target.index {
-        out.push_str(text_of(Piece::Within))?;
-        push_expr(out, decls, index)?;
-        let cells = target.place.cells;
-        write!(out, ", {cells})]")?;
-    }
-    Ok(())
-}
-
-/// The size that a name was declared with, if it has one.
-fn size_of(decls: &[Decl], place: Place) -> Option<usize>
-    ensures { result ≡ size_of (slice_get decls.now place.declaration) }
-{
-    match decls.get(place.declaration) {
-        None => None,
-        Some(decl) => decl.size,
-    }
-}
-
-/// Adds the handles of a declaration, and how many there are.
-pub(crate) fn push_handles(
-    out: &mut String,
-    decls: &[Decl],
-    handles: Place,
-) -> Result<(), AllocError>
-    ensures { OnOk result (string_bytes out.new ≡ string_bytes out.old ++ c_handles decls.now handles) }
-{
-    match size_of(decls, handles) {
-        None => {
-            out.push_str("&")?;
-            push_name(out, decls, handles)?;
-            out.push_str(", 1")
-        }
-        Some(count) => {
-            push_name(out, decls, handles)?;
-            write!(out, ", {count}")
-        }
     }
 }

@@ -10,7 +10,7 @@ use std::alloc::Global;
 /// Writes a script as a C program with MPI calls (docs/FORMATS.md, "A script in C"). `WriteFailed`
 /// (46) comes only if a write failed, and `Memory` only before anything is written.
 pub fn write_c<W: Sink>(alloc: Global, script: &Script, sink: &mut W) -> Result<(), EngineFault>
-    ensures { WroteC script.now (W.seen sink.old) (W.seen sink.new) result }
+    ensures { WroteC (W.seen sink.old) (W.seen sink.new) result }
 {
     let Ok(text) = print_c(alloc, script) else {
         return Err(EngineFault::Memory);
