@@ -71,7 +71,7 @@ LEFT_OUT = {
     'mpd_diagnose': {
         **dict.fromkeys(('full_command', 'ranks_line'), 'called by the program with --ranks'),
         **dict.fromkeys(('closing_of', 'diagnose_mode', 'first_of', 'modes_up_to', 'worst_of'), 'called by the program with --modes')},
-    'mpd_picture': {'arrows_are_pairs': 'a law'},
+    'mpd_picture': {**dict.fromkeys(('arrows_are_pairs', 'lanes_go_down', 'messages_go_down'), 'a law'), 'picture_of': 'called by draw'},
     'mpd_page': dict.fromkeys(('states_are_shown', 'texts_tell_changes', 'parents_come_first', 'data_has_no_markup'), 'a law'),
     'mpd_script': {'read_expression': BY_WORDS}, 'mpd_print': {'push_expr': BY_WORDS},
     'mpd_vocabulary': {'behind_word': 'takes no memory', 'word_at': 'takes no memory', **dict.fromkeys(('line_of', 'push_fault', 'push_help', 'push_no_name', 'push_quoted'), BY_WORDS)},

@@ -15,6 +15,9 @@ use Rattle.mpd_model.specs.declared.call.MatchSet.TheVariants.{Pair, Woke}
 use Rattle.mpd_model.specs.declared.call.MatchSet.TheVariants as set
 use Rattle.mpd_model.specs.steps.World.{World, Board, call_id, rank_numbers, start, last_call, eligible, is_free, kind_at}
 use Rattle.mpd_model.specs.steps.Next.{Ran, next, fold, local_at, stepped, with_issued, with_set, can_wake, can_wake_any, can_release, woken, woken_any, released, waits, any_call}
+use Rattle.mpd_model.specs.script.Program.{Program}
+use Rattle.mpd_names.specs.declared.place.PlacedCall.{PlacedCall}
+use Rattle.mpd_names.specs.Placed.{placed_call_of}
 use Rattle.mpd_picture.specs.declared.glyph.Deed.{Deed}
 use Rattle.mpd_picture.specs.declared.glyph.Glyph.{Glyph}
 use Rattle.mpd_picture.specs.declared.glyphs.Before.{Before}
@@ -114,7 +117,7 @@ steps_add lines w u row (a ∷ steps) h = led_adds lines w u row a steps (next w
 
 -- ---- what shapes are drawn for
 
-free_drawn : (c : CallId) (row rows : ℕ) (kind : Option CallKind) → flat_map set_of_shape (free_shapes c row rows kind) ≡ []
+free_drawn : (c : PlacedCall) (row rows : ℕ) (kind : Option CallKind) → flat_map set_of_shape (free_shapes c row rows kind) ≡ []
 free_drawn c row rows None = refl
 free_drawn c row rows (Some (Send s)) = refl
 free_drawn c row rows (Some (Recv r)) = refl
@@ -126,53 +129,53 @@ front_drawn : (b : Bool) (xs ys : List Shape) → flat_map set_of_shape xs ≡ [
 front_drawn true xs ys h k = flat_map-append set_of_shape xs ys ∙ ap (λ zs. zs ++ flat_map set_of_shape ys) h ∙ k
 front_drawn false xs ys h k = k
 
-event_drawn : (b : Board) (marks : List Mark) (rows row place : ℕ) (e : Event) → flat_map set_of_shape (event_shapes b marks rows row place e) ≡ set_of_event e
-event_drawn b marks rows row place (Issued c) = front_drawn (is_free b c) (free_shapes c row rows (kind_at b c)) _ (free_drawn c row rows (kind_at b c)) refl
-event_drawn b marks rows row place (Paired s r) = refl
-event_drawn b marks rows row place (WentOn c) = refl
-event_drawn b marks rows row place Released = refl
-event_drawn b marks rows row place (Noted n) = refl
+event_drawn : (s : Program) (b : Board) (marks : List Mark) (rows row place : ℕ) (e : Event) → flat_map set_of_shape (event_shapes s b marks rows row place e) ≡ set_of_event e
+event_drawn s b marks rows row place (Issued c) = front_drawn (is_free b c) (free_shapes (placed_call_of s b c) row rows (kind_at b c)) _ (free_drawn (placed_call_of s b c) row rows (kind_at b c)) refl
+event_drawn s b marks rows row place (Paired c d) = refl
+event_drawn s b marks rows row place (WentOn c) = refl
+event_drawn s b marks rows row place Released = refl
+event_drawn s b marks rows row place (Noted n) = refl
 
-end_drawn : (w : World) (marks : List Mark) (rows p : ℕ) → flat_map set_of_shape (end_shapes w marks rows p) ≡ []
-end_drawn w marks rows p = front_drawn (waits (slice_get w.ranks p)) _ _ refl refl
+end_drawn : (s : Program) (w : World) (marks : List Mark) (rows p : ℕ) → flat_map set_of_shape (end_shapes s w marks rows p) ≡ []
+end_drawn s w marks rows p = front_drawn (waits (slice_get w.ranks p)) _ _ refl refl
 
-request_drawn : (marks : List Mark) (number : ℕ) (wait : CallId) (o : Option CallId) → flat_map set_of_shape (request_shapes marks number wait o) ≡ []
-request_drawn marks number wait None = refl
-request_drawn marks number wait (Some c) = refl
+request_drawn : (s : Program) (b : Board) (marks : List Mark) (number : ℕ) (wait : CallId) (o : Option CallId) → flat_map set_of_shape (request_shapes s b marks number wait o) ≡ []
+request_drawn s b marks number wait None = refl
+request_drawn s b marks number wait (Some c) = refl
 
-candidate_drawn : (w : World) (marks : List Mark) (number : ℕ) (a : Step) → flat_map set_of_shape (candidate_shapes w marks number a) ≡ []
-candidate_drawn w marks number (Local p) = refl
-candidate_drawn w marks number (Match s r) = refl
-candidate_drawn w marks number (Wake p) = refl
-candidate_drawn w marks number (WakeAny p i) = request_drawn marks number (last_call w.board p) (any_call w p i)
-candidate_drawn w marks number Release = refl
+candidate_drawn : (s : Program) (w : World) (marks : List Mark) (number : ℕ) (a : Step) → flat_map set_of_shape (candidate_shapes s w marks number a) ≡ []
+candidate_drawn s w marks number (Local p) = refl
+candidate_drawn s w marks number (Match c d) = refl
+candidate_drawn s w marks number (Wake p) = refl
+candidate_drawn s w marks number (WakeAny p i) = request_drawn s w.board marks number (last_call w.board p) (any_call w p i)
+candidate_drawn s w marks number Release = refl
 
-candidates_drawn : (w : World) (marks : List Mark) (number : ℕ) (steps : List Step) → flat_map set_of_shape (candidates_from w marks number steps) ≡ []
-candidates_drawn w marks number [] = refl
-candidates_drawn w marks number (a ∷ steps) =
-    flat_map-append set_of_shape (candidate_shapes w marks number a) (candidates_from w marks (number + 1) steps)
-    ∙ ap (λ ys. ys ++ flat_map set_of_shape (candidates_from w marks (number + 1) steps)) (candidate_drawn w marks number a) ∙ candidates_drawn w marks (number + 1) steps
+candidates_drawn : (s : Program) (w : World) (marks : List Mark) (number : ℕ) (steps : List Step) → flat_map set_of_shape (candidates_from s w marks number steps) ≡ []
+candidates_drawn s w marks number [] = refl
+candidates_drawn s w marks number (a ∷ steps) =
+    flat_map-append set_of_shape (candidate_shapes s w marks number a) (candidates_from s w marks (number + 1) steps)
+    ∙ ap (λ ys. ys ++ flat_map set_of_shape (candidates_from s w marks (number + 1) steps)) (candidate_drawn s w marks number a) ∙ candidates_drawn s w marks (number + 1) steps
 
 abbrev set_of_mark : Mark → List MatchSet
 set_of_mark m = set_of_event m.event
 
-shapes_drawn : (w : World) (marks : List Mark) → flat_map set_of_shape (shapes_of w marks) ≡ flat_map set_of_mark marks
-shapes_drawn w marks =
+shapes_drawn : (s : Program) (w : World) (marks : List Mark) → flat_map set_of_shape (shapes_of s w marks) ≡ flat_map set_of_mark marks
+shapes_drawn s w marks =
     let rows : ℕ = rows_of marks in
     let ranks : List ℕ = rank_numbers w.board in
     let lanes : List Shape = flat_map (lane_shapes rows) ranks in
-    let middle : List Shape = flat_map (mark_shapes w.board marks rows) marks in
-    let listed : List Shape = candidates_from w marks 1 (candidates w) in
-    let ends : List Shape = flat_map (end_shapes w marks rows) ranks in
+    let middle : List Shape = flat_map (mark_shapes s w.board marks rows) marks in
+    let listed : List Shape = candidates_from s w marks 1 (candidates w) in
+    let ends : List Shape = flat_map (end_shapes s w marks rows) ranks in
     let given : List Shape → List MatchSet = flat_map set_of_shape in
     flat_map-append set_of_shape (lanes ++ middle ++ listed) ends
     ∙ ap (λ ys. ys ++ given ends) (flat_map-append set_of_shape (lanes ++ middle) listed
-    ∙ ap (λ ys. given (lanes ++ middle) ++ ys) (candidates_drawn w marks 1 (candidates w)) ∙ append-nil (given (lanes ++ middle)))
+    ∙ ap (λ ys. given (lanes ++ middle) ++ ys) (candidates_drawn s w marks 1 (candidates w)) ∙ append-nil (given (lanes ++ middle)))
     ∙ ap (λ ys. ys ++ flat_map set_of_shape ends) (flat_map-append set_of_shape lanes middle)
     ∙ ap (λ ys. ys ++ flat_map set_of_shape middle ++ flat_map set_of_shape ends) (none_given set_of_shape (lane_shapes rows) ranks (λ p. refl))
-    ∙ ap (λ ys. flat_map set_of_shape middle ++ ys) (none_given set_of_shape (end_shapes w marks rows) ranks (end_drawn w marks rows))
+    ∙ ap (λ ys. flat_map set_of_shape middle ++ ys) (none_given set_of_shape (end_shapes s w marks rows) ranks (end_drawn s w marks rows))
     ∙ append-nil (flat_map set_of_shape middle)
-    ∙ given_as set_of_shape (mark_shapes w.board marks rows) set_of_mark marks (λ m. event_drawn w.board marks rows m.row m.place m.event)
+    ∙ given_as set_of_shape (mark_shapes s w.board marks rows) set_of_mark marks (λ m. event_drawn s w.board marks rows m.row m.place m.event)
 
 -- ---- marks are of what steps show
 
@@ -186,4 +189,4 @@ marks_drawn marks (m ∷ glyphs) =
 
 pub arrows : ArrowsArePairs
 arrows s mode steps w h =
-    shapes_drawn w (marks_of (glyphs_of s mode steps)) ∙ marks_drawn [] (glyphs_of s mode steps) ∙ sym (steps_add s.lines (start s mode) w 0 steps h)
+    shapes_drawn s w (marks_of (glyphs_of s mode steps)) ∙ marks_drawn [] (glyphs_of s mode steps) ∙ sym (steps_add s.lines (start s mode) w 0 steps h)

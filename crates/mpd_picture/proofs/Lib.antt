@@ -1,5 +1,5 @@
 pub mod GlyphLemmas
 pub mod MarkLemmas
 pub mod TableLemmas
-pub mod SvgLemmas
 pub mod LawLemmas
+pub mod RowLemmas

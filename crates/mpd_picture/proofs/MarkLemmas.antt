@@ -3,6 +3,7 @@ use Rattle.std.proofs.Common.{◌≡◌, ℕ, zero, suc, ◌+◌, ◌<◌, max, 
 use Rattle.std.proofs.Math.Nat.{max-zero, zero-max, suc-max-suc}
 use Rattle.std.proofs.lemmas.List.{drop_more}
 use Rattle.mpd_model.specs.declared.step.Step.{Step}
+use Rattle.mpd_model.specs.script.Program.{Program}
 use Rattle.mpd_model.specs.steps.World.{World}
 use Rattle.mpd_picture.specs.declared.glyph.Glyph.{Glyph}
 use Rattle.mpd_picture.specs.declared.glyph.Mark.{Mark}
@@ -24,10 +25,10 @@ pub marks_more : (glyphs : List Glyph) (i : ℕ) (d : Glyph) (so_far now total :
 marks_more glyphs i d so_far now total within h e = ap (λ xs. marks_from xs (drop (i + 1) glyphs)) e ∙ ap (marks_from so_far) (sym (drop_more glyphs i d within)) ∙ h
 
 -- one candidate more
-pub candidates_more : (w : World) (marks : List Mark) (steps : List Step) (i : ℕ) (d : Step) (number : ℕ) (so_far now total : List Shape) → i < length steps
-    → so_far ++ candidates_from w marks number (drop i steps) ≡ total → now ≡ so_far ++ candidate_shapes w marks number (get_or steps i d)
-    → now ++ candidates_from w marks (number + 1) (drop (i + 1) steps) ≡ total
-candidates_more w marks steps i d number so_far now total within h e =
-    let rest : List Shape = candidates_from w marks (number + 1) (drop (i + 1) steps) in
-    ap (λ xs. xs ++ rest) e ∙ append_assoc so_far (candidate_shapes w marks number (get_or steps i d)) rest
-    ∙ ap (λ xs. so_far ++ candidates_from w marks number xs) (sym (drop_more steps i d within)) ∙ h
+pub candidates_more : (s : Program) (w : World) (marks : List Mark) (steps : List Step) (i : ℕ) (d : Step) (number : ℕ) (so_far now total : List Shape) → i < length steps
+    → so_far ++ candidates_from s w marks number (drop i steps) ≡ total → now ≡ so_far ++ candidate_shapes s w marks number (get_or steps i d)
+    → now ++ candidates_from s w marks (number + 1) (drop (i + 1) steps) ≡ total
+candidates_more s w marks steps i d number so_far now total within h e =
+    let rest : List Shape = candidates_from s w marks (number + 1) (drop (i + 1) steps) in
+    ap (λ xs. xs ++ rest) e ∙ append_assoc so_far (candidate_shapes s w marks number (get_or steps i d)) rest
+    ∙ ap (λ xs. so_far ++ candidates_from s w marks number xs) (sym (drop_more steps i d within)) ∙ h

@@ -1,9 +1,8 @@
+pub mod Ends
 pub mod Glyphs
 pub mod Marks
 pub mod MarkTable
 pub mod Shapes
-pub mod Svg
-pub mod Rows
 pub mod Pictures
 pub mod PictureLaws
 pub mod PictureRows

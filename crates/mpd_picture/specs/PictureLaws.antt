@@ -1,5 +1,6 @@
--- What a drawing shows of a run: its arrows are the pairs, and its bars the releases.
-use Rattle.std.specs.Prelude.{◌≡◌, Bool, true, false, List, [], ◌∷◌, Some}
+-- What a drawing shows of a run: its arrows are the pairs, and its bars the releases; and where.
+use Rattle.std.specs.Prelude.{◌≡◌, ℕ, ◌≤◌, Bool, true, false, ◌&&◌, List, [], ◌∷◌, Some}
+use Rattle.mpd_model.specs.declared.step.CallId.{CallId}
 use Rattle.std.specs.List.{filter, flat_map}
 use Rattle.mpd_model.specs.declared.step.Step.{Step}
 use Rattle.mpd_model.specs.declared.call.Mode.{Mode}
@@ -9,15 +10,19 @@ use Rattle.mpd_model.specs.declared.call.MatchSet.TheVariants as set
 use Rattle.mpd_model.specs.script.Program.{Program}
 use Rattle.mpd_model.specs.steps.World.{World, start}
 use Rattle.mpd_model.specs.steps.Next.{fold}
+use Rattle.mpd_picture.specs.declared.glyph.Glyph.{Glyph}
+use Rattle.mpd_picture.specs.declared.glyph.Mark.{Mark}
+use Rattle.mpd_picture.specs.declared.glyph.Event.{Event}
+use Rattle.mpd_picture.specs.declared.glyph.Event.TheVariants.{Paired}
 use Rattle.mpd_picture.specs.declared.shape.Shape.{Shape}
 use Rattle.mpd_picture.specs.declared.shape.Shape.TheVariants.{Arrow, Bar}
 use Rattle.mpd_picture.specs.Glyphs.{glyphs_of}
-use Rattle.mpd_picture.specs.Marks.{marks_of}
+use Rattle.mpd_picture.specs.Marks.{is_row, stands_in, under, below, row_of, event_row, marks_of}
 use Rattle.mpd_picture.specs.Shapes.{shapes_of}
 
 -- the match set that a shape is drawn for: an arrow for a pair, a bar for a release
 abbrev pub set_of_shape : Shape → List MatchSet
-set_of_shape (Arrow s from r to place) = Pair s r ∷ []
+set_of_shape (Arrow c from d to place) = Pair c.call d ∷ []
 set_of_shape (Bar row place) = set.Barrier ∷ []
 set_of_shape shape = []
 
@@ -26,7 +31,31 @@ abbrev pub is_drawn : MatchSet → Bool
 is_drawn (Woke c) = false
 is_drawn m = true
 
--- In the drawing of any run the arrows are exactly the pairs of its state, each from its send to its receive, and the bars its releases, in
--- the order in which they were formed.
+-- In the drawing of any run the arrows are exactly the pairs of its state, each from its send to its
+-- receive, and the bars its releases, in the order in which they were formed.
 abbrev pub ArrowsArePairs : Type 0
-ArrowsArePairs = (s : Program) (mode : Mode) (steps : List Step) (w : World) → fold (start s mode) steps ≡ Some w → flat_map set_of_shape (shapes_of w (marks_of (glyphs_of s mode steps))) ≡ filter is_drawn w.board.sets
+ArrowsArePairs =
+    (s : Program) (mode : Mode) (steps : List Step) (w : World) → fold (start s mode) steps ≡ Some w
+    → flat_map set_of_shape (shapes_of s w (marks_of (glyphs_of s mode steps)))
+    ≡ filter is_drawn w.board.sets
+
+-- whether something takes a row in the lane of a rank
+abbrev pub in_lane : ℕ → Event → Bool
+in_lane p e = is_row e && stands_in p e
+
+-- those of these marks that take a row in the lane of a rank stand above this row
+abbrev pub AreAbove : ℕ → ℕ → List Mark → Type 0
+AreAbove p row [] = Unit {0}
+AreAbove p row (m ∷ ms) = (in_lane p m.event ≡ true → below m ≤ row) × AreAbove p row ms
+
+-- In each lane what takes a row stands below all that took one before it.
+abbrev pub LanesGoDown : Type 0
+LanesGoDown =
+    (glyphs : List Glyph) (p : ℕ) (e : Event) → in_lane p e ≡ true
+    → AreAbove p (event_row (marks_of glyphs) e) (marks_of glyphs)
+
+-- A match stands below its send.
+abbrev pub MessagesGoDown : Type 0
+MessagesGoDown =
+    (glyphs : List Glyph) (c d : CallId)
+    → under (row_of (marks_of glyphs) c) ≤ event_row (marks_of glyphs) (Paired c d)

@@ -9,9 +9,11 @@ use crate::marks::Marks;
 use crate::shape::Shape;
 use mpd_core::Core;
 use mpd_model::{CallId, CallKind, Step};
+use mpd_names::placed_call;
 use std::alloc::{AllocError, Global};
 
-/// Whether somebody has to choose a step: a match of a receive of any source, or by which request a waitany goes on.
+/// Whether somebody has to choose a step: a match of a receive of any source, or by which request a
+/// waitany goes on.
 fn is_choice(core: &Core<'_>, step: Step) -> bool
     ensures { result ≡ spec.is_choice core.now.world.board step }
 {
@@ -43,19 +45,21 @@ fn are_choices(core: &Core<'_>, steps: &[Step]) -> bool
 
 /// Adds a request of a waitany with its number, if it is a call.
 fn push_request(
+    core: &Core<'_>,
     marks: &Marks,
     shapes: &mut Vec<Shape>,
     number: usize,
     wait: CallId,
     call: Option<CallId>,
 ) -> Result<(), AllocError>
-    ensures { OnOk result (shapes.new.items ≡ shapes.old.items ++ spec.request_shapes marks.now number wait call) }
+    ensures { OnOk result (shapes.new.items ≡ shapes.old.items
+        ++ spec.request_shapes core.now.program core.now.world.board marks.now number wait call) }
 {
     let Some(call) = call else {
         return Ok(());
     };
     shapes.push(Shape::Request {
-        call,
+        call: placed_call(core, call),
         from: marks.row_of(call),
         to: marks.row_of(wait),
         number,
@@ -81,12 +85,13 @@ fn push_candidate(
     number: usize,
     step: Step,
 ) -> Result<(), AllocError>
-    ensures { OnOk result (shapes.new.items ≡ shapes.old.items ++ spec.candidate_shapes core.now.world marks.now number step) }
+    ensures { OnOk result (shapes.new.items ≡ shapes.old.items
+        ++ spec.candidate_shapes core.now.program core.now.world marks.now number step) }
 {
     match step {
         Step::Match(send, receive) => {
             shapes.push(Shape::Candidate {
-                send,
+                send: placed_call(core, send),
                 from: marks.row_of(send),
                 receive,
                 to: marks.row_of(receive),
@@ -96,7 +101,8 @@ fn push_candidate(
         }
         Step::WakeAny { rank, index } => {
             let wait = core.board().last_call(rank);
-            push_request(marks, shapes, number, wait, request_call(core, rank, index))
+            let call = request_call(core, rank, index);
+            push_request(core, marks, shapes, number, wait, call)
         }
         Step::Local(_) | Step::Wake(_) | Step::Release => Ok(()),
     }
@@ -109,7 +115,8 @@ fn push_listed(
     shapes: &mut Vec<Shape>,
     steps: &[Step],
 ) -> Result<(), AllocError>
-    ensures { OnOk result (shapes.new.items ≡ shapes.old.items ++ spec.candidates_from core.now.world marks.now 1 steps.now) }
+    ensures { OnOk result (shapes.new.items ≡ shapes.old.items
+        ++ spec.candidates_from core.now.program core.now.world marks.now 1 steps.now) }
 {
     let mut before = 0;
     for step in steps {
@@ -128,7 +135,9 @@ pub(crate) fn push_candidates(
     marks: &Marks,
     shapes: &mut Vec<Shape>,
 ) -> Result<(), AllocError>
-    ensures { OnOk result (shapes.new.items ≡ shapes.old.items ++ spec.candidates_from core.now.world marks.now 1 (spec.candidates core.now.world)) }
+    ensures { OnOk result (shapes.new.items ≡ shapes.old.items
+        ++ spec.candidates_from core.now.program core.now.world marks.now 1
+        (spec.candidates core.now.world)) }
 {
     let steps = core.enabled(alloc)?;
     if are_choices(core, &steps) {

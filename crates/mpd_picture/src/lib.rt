@@ -3,22 +3,23 @@
 
 mod candidates;
 pub mod drawing;
-mod elements;
-mod glyph;
+pub mod ends;
+pub mod glyph;
 mod glyphs;
-mod labels;
 pub mod laws;
 mod marks;
-mod notes;
 mod paths;
+pub mod picture;
 mod places;
 mod rows;
-mod shape;
+pub mod shape;
 mod shapes;
 mod style;
 mod svg;
-mod told;
-mod wants;
 
-pub use drawing::{DrawFault, GLYPHS_MAX, Look, draw, push_picture};
-pub use laws::arrows_are_pairs;
+pub use drawing::{Look, draw, push_picture};
+pub use ends::{Finish, Wanted};
+pub use glyph::{Deed, Note};
+pub use laws::{arrows_are_pairs, lanes_go_down, messages_go_down};
+pub use picture::{DrawFault, GLYPHS_MAX, Picture, picture_of};
+pub use shape::Shape;

@@ -1,192 +1,126 @@
-//! The paths of arrows.
+//! The paths of arrows (docs/PICTURES.md, "Elements").
 
-ghost use Rattle.std.specs.Prelude.{◌≡◌, ◌++◌, ◌≤◌, OnOk, IfOk, string_bytes};
-ghost use Rattle.mpd_picture.specs.Svg as spec;
-
-use crate::elements::push_corner;
 use crate::places::{lane_x, row_y};
-use mpd_model::CallId;
-use std::alloc::{AllocError, Global};
+use std::fmt;
 
-/// Adds a bow at the left of a lane.
-#[tactic(auto, unfolding(crate::specs::Svg::bow))]
-fn push_bow(out: &mut String, x: usize, from: usize, to: usize) -> Result<(), AllocError>
-    ensures { OnOk result (string_bytes out.new ≡ string_bytes out.old ++ spec.bow x from to) }
-{
-    let left = x.saturating_sub(40);
-    push_corner(out, "C", left, from)?;
-    push_corner(out, " ", left, to)?;
-    push_corner(out, " ", x, to)
+/// Where a path begins, at a row of a lane.
+#[derive(Clone, Copy)]
+pub(crate) struct Spot {
+    pub(crate) rank: usize,
+    pub(crate) row: usize,
 }
 
-/// Adds a straight line.
-#[tactic(auto, unfolding(crate::specs::Svg::straight))]
-fn push_straight(out: &mut String, x: usize, y: usize) -> Result<(), AllocError>
-    ensures { OnOk result (string_bytes out.new ≡ string_bytes out.old ++ spec.straight x y) }
-{
-    push_corner(out, "L", x, y)
-}
-
-/// Adds a line that goes down beside its own lane, and then between two rows, to a point.
-#[tactic(auto, unfolding(crate::specs::Svg::bent))]
-fn push_bent(
-    out: &mut String,
-    near: usize,
-    far: usize,
-    x: usize,
-    y: usize,
-) -> Result<(), AllocError>
-    ensures { OnOk result (string_bytes out.new ≡ string_bytes out.old ++ spec.bent near far x y) }
-{
-    push_straight(out, near, y.saturating_sub(28))?;
-    push_straight(out, far, y.saturating_sub(9))?;
-    push_straight(out, x, y)
-}
-
-/// Adds a line to a higher rank, at this height.
-#[tactic(auto, unfolding(crate::specs::Svg::to_higher))]
-fn push_to_higher(
-    out: &mut String,
-    sender: usize,
-    receiver: usize,
-    y: usize,
-) -> Result<(), AllocError>
-    ensures { OnOk result (string_bytes out.new ≡ string_bytes out.old ++ spec.to_higher sender receiver y) }
-{
-    let x = lane_x(receiver);
-    if receiver.saturating_sub(sender) == 1 {
-        return push_straight(out, x.saturating_sub(7), y);
-    }
-    let near = lane_x(sender) + 80;
-    push_bent(out, near, x.saturating_sub(80), x.saturating_sub(7), y)
-}
-
-/// Adds a line to a lower rank, at this height.
-#[tactic(auto, unfolding(crate::specs::Svg::to_lower))]
-fn push_to_lower(
-    out: &mut String,
-    sender: usize,
-    receiver: usize,
-    y: usize,
-) -> Result<(), AllocError>
-    ensures { OnOk result (string_bytes out.new ≡ string_bytes out.old ++ spec.to_lower sender receiver y) }
-{
-    let x = lane_x(receiver);
-    if sender.saturating_sub(receiver) == 1 {
-        return push_straight(out, x + 4, y);
-    }
-    let near = lane_x(sender).saturating_sub(80);
-    push_bent(out, near, x + 80, x + 4, y)
-}
-
-/// Adds a line to another rank, at this height.
-#[tactic(auto, unfolding(crate::specs::Svg::to_other))]
-fn push_to_other(
-    out: &mut String,
-    sender: usize,
-    receiver: usize,
-    y: usize,
-) -> Result<(), AllocError>
-    ensures { OnOk result (string_bytes out.new ≡ string_bytes out.old ++ spec.to_other sender receiver y) }
-{
-    if sender < receiver {
-        push_to_higher(out, sender, receiver, y)
-    } else {
-        push_to_lower(out, sender, receiver, y)
+impl fmt::Display for Spot {
+    fn fmt<W: fmt::Write>(&self, f: &mut fmt::Formatter<W>) -> fmt::Result {
+        write!(f, "M{} {}", lane_x(self.rank), row_y(self.row))
     }
 }
 
-/// The path of an arrow.
-#[tactic(auto, unfolding(crate::specs::Svg::arrow_path))]
-pub(crate) fn arrow_path(
-    alloc: Global,
-    sender: usize,
-    from: usize,
-    receiver: usize,
-    to: usize,
-) -> Result<String, AllocError>
-    ensures { IfOk result (λ t. string_bytes t ≡ spec.arrow_path sender from receiver to) }
-{
-    let mut path = String::new(alloc);
-    if sender == receiver {
-        push_bow(&mut path, lane_x(receiver), row_y(from), row_y(to))?;
-    } else {
-        push_to_other(&mut path, sender, receiver, row_y(to))?;
+/// A bow at the left of a lane, from a row to another.
+#[derive(Clone, Copy)]
+pub(crate) struct Bow {
+    pub(crate) rank: usize,
+    pub(crate) from: usize,
+    pub(crate) to: usize,
+}
+
+impl fmt::Display for Bow {
+    fn fmt<W: fmt::Write>(&self, f: &mut fmt::Formatter<W>) -> fmt::Result {
+        let x = lane_x(self.rank);
+        let left = x - 40;
+        let (from, to) = (row_y(self.from), row_y(self.to));
+        write!(f, "C{left} {from} {left} {to} {x} {to}")
     }
-    Ok(path)
 }
 
-/// Adds a line that hangs below its ends, towards these heights.
-#[tactic(auto, unfolding(crate::specs::Svg::hanging))]
-pub(crate) fn push_hanging(
-    out: &mut String,
-    x1: usize,
-    low1: usize,
-    x2: usize,
-    low2: usize,
-    y2: usize,
-) -> Result<(), AllocError>
-    ensures { OnOk result (string_bytes out.new ≡ string_bytes out.old ++ spec.hanging x1 low1 x2 low2 y2) }
-{
-    push_corner(out, "C", x1, low1)?;
-    push_corner(out, " ", x2, low2)?;
-    push_corner(out, " ", x2, y2)
+/// The way of a message, from the row of its send to that of its match or its receive.
+#[derive(Clone, Copy)]
+pub(crate) struct Way {
+    pub(crate) sender: usize,
+    pub(crate) from: usize,
+    pub(crate) receiver: usize,
+    pub(crate) to: usize,
 }
 
-/// The path of a request of a waitany, in the lane of its rank.
-pub(crate) fn request_path(
-    alloc: Global,
-    rank: usize,
-    from: usize,
-    to: usize,
-) -> Result<String, AllocError>
-    ensures { IfOk result (λ t. string_bytes t ≡ spec.bow (spec.lane_x rank) (spec.row_y from) (spec.row_y to)) }
-{
-    let mut path = String::new(alloc);
-    push_bow(&mut path, lane_x(rank), row_y(from), row_y(to))?;
-    Ok(path)
-}
-
-/// The path of a candidate.
-#[tactic(auto, unfolding(crate::specs::Svg::candidate_path))]
-pub(crate) fn candidate_path(
-    alloc: Global,
-    sender: usize,
-    from: usize,
-    receiver: usize,
-    to: usize,
-) -> Result<String, AllocError>
-    ensures { IfOk result (λ t. string_bytes t ≡ spec.candidate_path sender from receiver to) }
-{
-    let mut path = String::new(alloc);
-    let x = lane_x(receiver);
-    if sender == receiver {
-        push_bow(&mut path, x, row_y(from), row_y(to))?;
-    } else {
-        let y = row_y(to);
-        push_hanging(&mut path, lane_x(sender), row_y(from) + 18, x, y + 18, y)?;
+impl Way {
+    /// The way of a message to its own rank.
+    fn bow(self) -> Bow {
+        Bow {
+            rank: self.receiver,
+            from: self.from,
+            to: self.to,
+        }
     }
-    Ok(path)
 }
 
-/// How far beside its lane a receive is posted, 8 to 20.
-pub(crate) fn posted_depth(call: CallId) -> usize
-    ensures { result ≡ spec.posted_depth call }
-{
-    8 + 4 * (call.index % 4)
+/// The path of an arrow. To the next lane it is straight; to others it goes down beside its own
+/// lane, and then between two rows, where no shape of a lane stands.
+#[derive(Clone, Copy)]
+pub(crate) struct ArrowPath(pub(crate) Way);
+
+impl fmt::Display for ArrowPath {
+    fn fmt<W: fmt::Write>(&self, f: &mut fmt::Formatter<W>) -> fmt::Result {
+        let way = self.0;
+        if way.sender == way.receiver {
+            return write!(f, "{}", way.bow());
+        }
+        let (start, x, y) = (lane_x(way.sender), lane_x(way.receiver), row_y(way.to));
+        let (above, between) = (y - 28, y - 9);
+        let is_higher = way.sender < way.receiver;
+        let tip = if is_higher { x - 7 } else { x + 4 };
+        if way.sender.abs_diff(way.receiver) == 1 {
+            return write!(f, "L{tip} {y}");
+        }
+        let (near, far) = if is_higher {
+            (start + 80, x - 80)
+        } else {
+            (start - 80, x + 80)
+        };
+        write!(f, "L{near} {above}L{far} {between}L{tip} {y}")
+    }
 }
 
-/// The path of a receive that is posted, from beside its lane: out, down, and back.
-#[tactic(auto, unfolding(crate::specs::Svg::bracket))]
-pub(crate) fn bracket(
-    alloc: Global,
-    far: usize,
-    near: usize,
-    y: usize,
-) -> Result<String, AllocError>
-    ensures { IfOk result (λ t. string_bytes t ≡ spec.bracket far near y) }
-{
-    let mut path = String::new(alloc);
-    write!(path, "H{far}V{y}H{near}")?;
-    Ok(path)
+/// The path of a candidate. It hangs below the row of its send, so that it passes beside what
+/// stands in the lanes between.
+#[derive(Clone, Copy)]
+pub(crate) struct CandidatePath(pub(crate) Way);
+
+impl fmt::Display for CandidatePath {
+    fn fmt<W: fmt::Write>(&self, f: &mut fmt::Formatter<W>) -> fmt::Result {
+        let way = self.0;
+        if way.sender == way.receiver {
+            return write!(f, "{}", way.bow());
+        }
+        let (start, from) = (lane_x(way.sender), row_y(way.from) + 18);
+        let (x, y) = (lane_x(way.receiver), row_y(way.to));
+        write!(f, "C{start} {from} {x} {} {x} {y}", y + 18)
+    }
+}
+
+/// The path from below the end of a rank, one of so many, to another that it waits for. If there
+/// are more than 4, each has a height of its own, so that no arrow lies on another.
+#[derive(Clone, Copy)]
+pub(crate) struct WantPath {
+    pub(crate) ranks: usize,
+    pub(crate) rank: usize,
+    pub(crate) row: usize,
+    pub(crate) wanted: usize,
+}
+
+impl fmt::Display for WantPath {
+    fn fmt<W: fmt::Write>(&self, f: &mut fmt::Formatter<W>) -> fmt::Result {
+        let (from, to) = (lane_x(self.rank) + 12, lane_x(self.wanted) - 12);
+        let top = row_y(self.row) + 72;
+        let end = top + 2;
+        if self.ranks > 4 {
+            let low = top + 12 + 8 * self.rank.min(16);
+            return write!(f, "M{from} {top}V{low}H{to}V{end}");
+        }
+        let low = if self.wanted < self.rank {
+            top + 52
+        } else {
+            top + 36
+        };
+        write!(f, "M{from} {top}C{from} {low} {to} {low} {to} {end}")
+    }
 }

@@ -1,11 +1,13 @@
 //! The shapes of a picture, by ranks and rows (docs/PICTURES.md, "Shapes").
 
+use crate::ends::Finish;
 use crate::glyph::Note;
 use mpd_model::CallId;
+use mpd_names::PlacedCall;
 
 /// A shape. Ranks are lanes from left to right, and rows count from 0 downwards.
 #[derive(Clone, Copy)]
-pub(crate) enum Shape {
+pub enum Shape {
     /// The lane of a rank, down to a row.
     Lane {
         rank: usize,
@@ -23,20 +25,22 @@ pub(crate) enum Shape {
         from: usize,
         to: usize,
     },
-    /// A call at the row in which it is issued; what is told of it has a place in the list, as of an arrow and a bar.
+    /// A call at the row in which it is issued, and whether it stays free; what is told of it has a
+    /// place in the list, as of an arrow and a bar.
     Call {
-        call: CallId,
+        call: PlacedCall,
         row: usize,
         place: usize,
+        is_free: bool,
     },
     /// A send or a receive that stays free, at that row.
     Stub {
-        call: CallId,
+        call: PlacedCall,
         row: usize,
     },
     /// A message, from the row of its send to that in which it is matched with the receive.
     Arrow {
-        send: CallId,
+        send: PlacedCall,
         from: usize,
         receive: CallId,
         to: usize,
@@ -53,17 +57,19 @@ pub(crate) enum Shape {
         row: usize,
         place: usize,
     },
-    /// A candidate of the choice at the end, from the row of its send to that of its receive; candidates are counted from 1.
+    /// A candidate of the choice at the end, from the row of its send to that of its receive;
+    /// candidates are counted from 1.
     Candidate {
-        send: CallId,
+        send: PlacedCall,
         from: usize,
         receive: CallId,
         to: usize,
         number: usize,
     },
-    /// A request that a waitany can go on by at the end, from its row to that of the waitany; counted with the candidates.
+    /// A request that a waitany can go on by at the end, from its row to that of the waitany;
+    /// counted with the candidates.
     Request {
-        call: CallId,
+        call: PlacedCall,
         from: usize,
         to: usize,
         number: usize,
@@ -72,5 +78,6 @@ pub(crate) enum Shape {
     End {
         rank: usize,
         row: usize,
+        finish: Finish,
     },
 }

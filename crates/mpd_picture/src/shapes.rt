@@ -1,17 +1,18 @@
 //! The shapes of a picture, from the marks of the steps and where they lead.
 
-ghost use Rattle.std.specs.Prelude.{◌≡◌, ◌++◌, ◌∷◌, [], if◌then◌else◌, IfOk, OnOk, slice_get};
+ghost use Rattle.std.specs.Prelude.{◌≡◌, ◌++◌, ◌∷◌, [], IfOk, OnOk};
 ghost use Rattle.std.specs.List.{flat_map};
-ghost use Rattle.mpd_model.specs.steps.World.{kind_at, rank_numbers};
-ghost use Rattle.mpd_model.specs.steps.Next.{waits as waits_in};
+ghost use Rattle.mpd_model.specs.steps.World.{rank_numbers};
 ghost use Rattle.mpd_picture.specs.Shapes as spec;
 
 use crate::candidates::push_candidates;
+use crate::ends::finish_of;
 use crate::glyph::{Event, Glyph, Mark};
 use crate::marks::{Marks, is_row};
 use crate::shape::Shape;
 use mpd_core::Core;
-use mpd_model::{Activity, CallId, CallKind};
+use mpd_model::{CallId, CallKind};
+use mpd_names::{PlacedCall, is_blocked, placed_call};
 use std::alloc::{AllocError, Global};
 
 /// Adds a shape.
@@ -37,21 +38,21 @@ pub(crate) fn places_of(glyphs: &[Glyph]) -> usize
 
 /// Adds what is shown of a call that stays free.
 fn push_free(
-    core: &Core<'_>,
     shapes: &mut Vec<Shape>,
     rows: usize,
-    call: CallId,
+    call: PlacedCall,
     row: usize,
 ) -> Result<(), AllocError>
-    ensures { OnOk result (shapes.new.items ≡ shapes.old.items ++ spec.free_shapes call row rows (kind_at core.now.world.board call)) }
+    ensures { OnOk result (shapes.new.items ≡ shapes.old.items
+        ++ spec.free_shapes call row rows call.kind) }
 {
-    match core.board().kind(call) {
+    match call.kind {
         Some(CallKind::Send(_)) => add(shapes, Shape::Stub { call, row }),
         Some(CallKind::Recv(_)) => {
             add(
                 shapes,
                 Shape::Posted {
-                    call,
+                    call: call.call,
                     from: row,
                     to: rows,
                 },
@@ -73,25 +74,39 @@ fn push_call(
     row: usize,
     place: usize,
 ) -> Result<(), AllocError>
-    ensures { OnOk result (shapes.new.items ≡ shapes.old.items ++ spec.call_shapes core.now.world.board rows call row place) }
+    ensures { OnOk result (shapes.new.items ≡ shapes.old.items
+        ++ spec.call_shapes core.now.program core.now.world.board rows call row place) }
 {
-    if core.board().is_free(call) {
-        push_free(core, shapes, rows, call, row)?;
+    let is_free = core.board().is_free(call);
+    let call = placed_call(core, call);
+    if is_free {
+        push_free(shapes, rows, call, row)?;
     }
-    add(shapes, Shape::Call { call, row, place })
+    add(
+        shapes,
+        Shape::Call {
+            call,
+            row,
+            place,
+            is_free,
+        },
+    )
 }
 
 /// Adds what is shown of a match.
 fn push_pair(
+    core: &Core<'_>,
     marks: &Marks,
     shapes: &mut Vec<Shape>,
-    send: CallId,
-    receive: CallId,
+    pair: (CallId, CallId),
     row: usize,
     place: usize,
 ) -> Result<(), AllocError>
-    ensures { OnOk result (shapes.new.items ≡ shapes.old.items ++ spec.pair_shapes marks.now send receive row place) }
+    ensures { OnOk result (shapes.new.items ≡ shapes.old.items
+        ++ spec.pair_shapes core.now.program core.now.world.board marks.now pair.0 pair.1 row
+        place) }
 {
+    let (send, receive) = pair;
     add(
         shapes,
         Shape::Posted {
@@ -103,7 +118,7 @@ fn push_pair(
     add(
         shapes,
         Shape::Arrow {
-            send,
+            send: placed_call(core, send),
             from: marks.row_of(send),
             receive,
             to: row,
@@ -120,12 +135,15 @@ fn push_mark(
     rows: usize,
     mark: Mark,
 ) -> Result<(), AllocError>
-    ensures { OnOk result (shapes.new.items ≡ shapes.old.items ++ spec.mark_shapes core.now.world.board marks.now rows mark) }
+    ensures { OnOk result (shapes.new.items ≡ shapes.old.items
+        ++ spec.mark_shapes core.now.program core.now.world.board marks.now rows mark) }
 {
     let Mark { row, place, event } = mark;
     match event {
         Event::Issued(call) => push_call(core, shapes, rows, call, row, place),
-        Event::Paired(send, receive) => push_pair(marks, shapes, send, receive, row, place),
+        Event::Paired(send, receive) => {
+            push_pair(core, marks, shapes, (send, receive), row, place)
+        }
         Event::WentOn(call) => add(
             shapes,
             Shape::Waiting {
@@ -147,7 +165,9 @@ fn push_marks(
     shapes: &mut Vec<Shape>,
     rows: usize,
 ) -> Result<(), AllocError>
-    ensures { OnOk result (shapes.new.items ≡ shapes.old.items ++ flat_map (spec.mark_shapes core.now.world.board marks.now rows) list.now) }
+    ensures { OnOk result (shapes.new.items ≡ shapes.old.items
+        ++ flat_map (spec.mark_shapes core.now.program core.now.world.board marks.now rows)
+        list.now) }
 {
     for mark in list {
         push_mark(core, marks, shapes, rows, *mark)?;
@@ -164,7 +184,8 @@ fn push_lane(shapes: &mut Vec<Shape>, rank: usize, rows: usize) -> Result<(), Al
 
 /// Adds the lanes.
 fn push_lanes(core: &Core<'_>, shapes: &mut Vec<Shape>, rows: usize) -> Result<(), AllocError>
-    ensures { OnOk result (shapes.new.items ≡ shapes.old.items ++ flat_map (spec.lane_shapes rows) (rank_numbers core.now.world.board)) }
+    ensures { OnOk result (shapes.new.items ≡ shapes.old.items
+        ++ flat_map (spec.lane_shapes rows) (rank_numbers core.now.world.board)) }
 {
     let count = core.rank_count();
     for rank in 0..count {
@@ -173,27 +194,19 @@ fn push_lanes(core: &Core<'_>, shapes: &mut Vec<Shape>, rows: usize) -> Result<(
     Ok(())
 }
 
-/// Whether a rank is blocked.
-pub(crate) fn waits(core: &Core<'_>, rank: usize) -> bool
-    ensures { result ≡ waits_in (slice_get core.now.world.ranks rank) }
-{
-    match core.activity(rank) {
-        Some(Activity::Blocked) => true,
-        None | Some(Activity::Running) | Some(Activity::Trapped(_)) => false,
-    }
-}
-
 /// Adds how a rank is at the end.
 fn push_end(
+    alloc: Global,
     core: &Core<'_>,
     marks: &Marks,
     shapes: &mut Vec<Shape>,
     rows: usize,
     rank: usize,
 ) -> Result<(), AllocError>
-    ensures { OnOk result (shapes.new.items ≡ shapes.old.items ++ spec.end_shapes core.now.world marks.now rows rank) }
+    ensures { OnOk result (shapes.new.items ≡ shapes.old.items
+        ++ spec.end_shapes core.now.program core.now.world marks.now rows rank) }
 {
-    if waits(core, rank) {
+    if is_blocked(core, rank) {
         add(
             shapes,
             Shape::Waiting {
@@ -203,21 +216,32 @@ fn push_end(
             },
         )?;
     }
-    add(shapes, Shape::End { rank, row: rows })
+    let finish = finish_of(alloc, core, rank)?;
+    add(
+        shapes,
+        Shape::End {
+            rank,
+            row: rows,
+            finish,
+        },
+    )
 }
 
 /// Adds how all ranks are at the end.
 fn push_ends(
+    alloc: Global,
     core: &Core<'_>,
     marks: &Marks,
     shapes: &mut Vec<Shape>,
     rows: usize,
 ) -> Result<(), AllocError>
-    ensures { OnOk result (shapes.new.items ≡ shapes.old.items ++ flat_map (spec.end_shapes core.now.world marks.now rows) (rank_numbers core.now.world.board)) }
+    ensures { OnOk result (shapes.new.items ≡ shapes.old.items
+        ++ flat_map (spec.end_shapes core.now.program core.now.world marks.now rows)
+        (rank_numbers core.now.world.board)) }
 {
     let count = core.rank_count();
     for rank in 0..count {
-        push_end(core, marks, shapes, rows, rank)?;
+        push_end(alloc, core, marks, shapes, rows, rank)?;
     }
     Ok(())
 }
@@ -229,13 +253,14 @@ pub(crate) fn shapes_of(
     core: &Core<'_>,
     marks: &Marks,
 ) -> Result<Vec<Shape>, AllocError>
-    ensures { IfOk result (λ shapes. shapes.items ≡ spec.shapes_of core.now.world marks.now) }
+    ensures { IfOk result (λ shapes. shapes.items
+        ≡ spec.shapes_of core.now.program core.now.world marks.now) }
 {
     let rows = marks.rows();
     let mut shapes = Vec::new(alloc);
     push_lanes(core, &mut shapes, rows)?;
     push_marks(core, marks, marks.items(), &mut shapes, rows)?;
     push_candidates(alloc, core, marks, &mut shapes)?;
-    push_ends(core, marks, &mut shapes, rows)?;
+    push_ends(alloc, core, marks, &mut shapes, rows)?;
     Ok(shapes)
 }

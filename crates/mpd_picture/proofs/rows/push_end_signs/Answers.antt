@@ -1,7 +1,0 @@
-use Rattle.std.proofs.Common.{string_bytes}
-use Rattle.mpd_core.proofs.RangeLemmas.{given_more}
-use Rattle.mpd_picture.specs.Rows.{end_sign}
-use Rattle.mpd_picture.proofs.rows.push_end_signs.Goals as goal
-
-pub loop-rank-preserved : goal.loop-rank-preserved
-loop-rank-preserved c = given_more (end_sign c.args.core.now.world) c.loop-rank.rank c.rank_count-count.result (string_bytes c.loop-rank.out) _ _ c.loop-rank-test.true c.loop-rank.invariant c.in_ok-push_end_sign.ensures
