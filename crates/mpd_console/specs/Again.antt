@@ -77,21 +77,17 @@ place_again ds s p = option_and_then (break_again ds s) p
 abbrev pub places_again : List Declared → Program → List (Option Breakpoint) → List (Option Breakpoint)
 places_again ds s places = flat_map (λ n. place_again ds s (break_at places n) ∷ []) (range_with_len 0 BREAKS_MAX)
 
--- what is told of one that can't be set there
-abbrev pub lost_by : List Declared → ℕ → Breakpoint → Option Breakpoint → List ℕ
-lost_by ds n b None = codes "not set again: " ++ break_line ds n b
-lost_by ds n b (Some c) = []
+-- those that can't be set there, as the script has them that was
+abbrev pub lost_by : ℕ → Breakpoint → Option Breakpoint → List Numbered
+lost_by n b None = record { number = n; stop = b } ∷ []
+lost_by n b (Some c) = []
 
-abbrev pub lost_of : List Declared → Program → ℕ → Option Breakpoint → List ℕ
-lost_of ds s n None = []
-lost_of ds s n (Some b) = lost_by ds n b (break_again ds s b)
+abbrev pub lost_at : List Declared → Program → ℕ → Option Breakpoint → List Numbered
+lost_at ds s n None = []
+lost_at ds s n (Some b) = lost_by n b (break_again ds s b)
 
-abbrev pub lost_text : List Declared → Program → List (Option Breakpoint) → List ℕ
-lost_text ds s places = flat_map (λ n. lost_of ds s n (break_at places n)) (range_with_len 0 BREAKS_MAX)
-
--- the same as a console tells it, with the places of marks of its script
-abbrev pub lost_said : List ℕ → Held → Program → List ℕ
-lost_said script d s = marked script (lost_text d.trail.program.decls s d.breaks)
+abbrev pub lost_again : List Declared → Program → List (Option Breakpoint) → List Numbered
+lost_again ds s places = flat_map (λ n. lost_at ds s n (break_at places n)) (range_with_len 0 BREAKS_MAX)
 
 -- ---- the session that begins anew
 
@@ -143,37 +139,7 @@ retaken s (a ∷ steps) = if fits s a then retaken (asked s (command.Step a)) st
 abbrev pub gone_again : Held → List (Option Breakpoint) → List Step → Held
 gone_again s places steps = retaken (with_breaks s places) steps
 
--- ---- what is told
+-- ---- what is told: how many steps are taken again, of how many
 
-abbrev pub head_words : ℕ → List ℕ
-head_words taken = decimal taken ++ codes " of "
-
-abbrev pub taken_words : ℕ → List ℕ
-taken_words all = count_words all ++ line (codes " taken again")
-
-abbrev pub again_line : ℕ → ℕ → List ℕ
-again_line taken all = head_words taken ++ taken_words all
-
-abbrev pub standing_said : List ℕ → Held → List ℕ
-standing_said script s = marked script (at_world (λ w. standing_text script s.trail w) (world_of s.trail))
-
-abbrev pub again_said : Look → List ℕ → Held → ℕ → ℕ → List ℕ → List ℕ
-again_said p script s taken all lost = said p s (again_line taken all ++ lost ++ standing_said script s)
-
-abbrev pub told_again : Look → List ℕ → Held → List (Option Breakpoint) → List Step → List ℕ → List ℕ
-told_again p script s places steps lost = again_said p script (gone_again s places steps) (fitting (with_breaks s places) steps) (length steps) lost
-
--- why a script isn't read again
-abbrev pub fault_words : ReadFault → ℕ → List ℕ
-fault_words fault n = line (read_fault_text fault ++ codes " line " ++ decimal n)
-
-abbrev pub script_fault_line : ReadFault → ℕ → List ℕ
-script_fault_line fault n = codes "refused: the script has a fault, " ++ fault_words fault n
-
-abbrev pub no_file_line : List ℕ
-no_file_line = line (codes "refused: the file can't be read")
-
-abbrev pub unread_line : Unread → List ℕ
-unread_line (why.Script fault n) = script_fault_line fault n
-unread_line why.File = no_file_line
-unread_line why.Memory = line (codes "refused: memory")
+abbrev pub told_again : Held → List (Option Breakpoint) → List Step → First
+told_again s places steps = first.Again (fitting (with_breaks s places) steps) (length steps)

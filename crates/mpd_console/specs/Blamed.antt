@@ -1,6 +1,5 @@
--- What is told of the step that decided how the kept run ends.
-use Rattle.std.specs.Prelude.{◌≡◌, ℕ, ◌+◌, ◌-◌, nat_lt, if◌then◌else◌, List, [], ◌++◌, length, Option, Some, None, codes}
-use Rattle.std.specs.Fmt.{decimal}
+-- The step that decided how the kept run ends, and how the other step is taken there.
+use Rattle.std.specs.Prelude.{◌≡◌, ℕ, ◌+◌, ◌-◌, nat_lt, if◌then◌else◌, List, length, Option, Some, None}
 use Rattle.std.specs.List.{position}
 use Rattle.mpd_model.specs.declared.limits.TheConstants.{STEPS_MAX}
 use Rattle.mpd_model.specs.declared.step.Step.{Step}
@@ -9,13 +8,11 @@ use Rattle.mpd_model.specs.declared.decision.Decision.TheVariants.{Forced, Choic
 use Rattle.mpd_model.specs.steps.World.{World, start}
 use Rattle.mpd_model.specs.runs.Decisions.{decision}
 use Rattle.mpd_model.specs.runs.Trail.{Trail, step_eq}
-use Rattle.mpd_model.specs.texts.Texts.{line, step_text}
 use Rattle.mpd_runs.specs.declared.listing.TheConstants.{FUEL}
 use Rattle.mpd_runs.specs.declared.states.TheConstants.{STATES_VISITED}
 use Rattle.mpd_blame.specs.declared.back.Blame.{Blame}
 use Rattle.mpd_blame.specs.declared.back.Blame.TheVariants as blame_is
 use Rattle.mpd_blame.specs.Blame.{IsBlame, IsThere}
-use Rattle.mpd_blame.specs.Words.{blame_words}
 
 -- how many steps a run has at most, from the start, where so many are kept
 abbrev pub kept_limit : ℕ → ℕ
@@ -45,24 +42,16 @@ number_by a (Choice steps) = number_at (place_among a steps)
 number_by a (Forced b) = None
 number_by a (Leaf o) = None
 
--- `next 2`, or the trace word of a step that isn't listed
-abbrev pub word_by : Step → Option ℕ → List ℕ
-word_by a (Some number) = codes "next " ++ decimal number
-word_by a None = step_text a
-
-abbrev pub word_for : World → Step → List ℕ
-word_for w a = word_by a (number_by a (decision w))
-
--- `to try that: match 2.0 0.1`
-abbrev pub way_line : World → Blame → List ℕ
-way_line w (blame_is.At d) = line (codes "to try that: " ++ word_for w d.other)
-way_line w b = []
+-- where another step is known, the number of that
+abbrev pub number_for : World → Blame → Option ℕ
+number_for w (blame_is.At d) = number_by d.other (decision w)
+number_for w b = None
 
 -- ---- both
 
--- the lines tell where it was decided how the kept run ends, and how another way is taken there
-pub record TellsBlame (t : Trail) (b : Blame) (text : List ℕ) : Type 0 where
+-- where it was decided how the kept run ends, and the number with which another way is taken there
+pub record IsBlamed (t : Trail) (b : Blame) (n : Option ℕ) : Type 0 where
   pub is : IsBlame STATES_VISITED (kept_limit (length t.steps)) (start t.program t.mode) t.steps b
   pub world : World
   pub there : IsThere (start t.program t.mode) t.steps b world
-  pub text_is : text ≡ line (blame_words t.program world b) ++ way_line world b
+  pub number : n ≡ number_for world b

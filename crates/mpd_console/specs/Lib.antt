@@ -3,8 +3,8 @@ pub mod Blamed
 pub mod Says
 pub mod Again
 pub mod Quitting
-pub mod Sourced
 pub mod News
 pub mod Onward
 pub mod Moves
+pub mod Carried
 pub mod Values

@@ -1,14 +1,12 @@
--- What a line of the console is answered, and where that leaves the session.
-use Rattle.std.specs.Prelude.{◌≡◌, ℕ, ◌-◌, ◌⊎◌, Bool, true, false, nat_lt, List, [], ◌∷◌, ◌++◌, length, Option, Some, None, option_and_then, IfSome, codes, refl}
+-- What a word and a line of the console do: what is told of it, and where that leaves the session.
+use Rattle.std.specs.Prelude.{◌≡◌, ℕ, ◌-◌, ◌⊎◌, Bool, true, false, nat_lt, if◌then◌else◌, List, [], ◌∷◌, ◌++◌, length, Option, Some, None, option_and_then, IfSome, refl}
 use Rattle.std.specs.Coded.{Coded, code_by, coded×, coded_ℕ, coded_bool, coded_list, coded_option}
-use Rattle.std.specs.Fmt.{decimal}
 use Rattle.mpd_model.specs.declared.limits.TheConstants.{LINE_MAX}
 use Rattle.mpd_model.specs.declared.step.Step.{Step}
 use Rattle.mpd_model.specs.declared.call.Mode.{Mode}
 use Rattle.mpd_model.specs.script.Program.{Program}
 use Rattle.mpd_model.specs.steps.World.{World, start}
 use Rattle.mpd_model.specs.runs.Trail.{Trail, world_of}
-use Rattle.mpd_model.specs.texts.Texts.{line}
 use Rattle.mpd_model.specs.texts.Words.{words}
 use Rattle.mpd_policy.specs.declared.ending.Ending.{Ending}
 use Rattle.mpd_explore.specs.declared.report.EndWitness.{EndWitness}
@@ -18,8 +16,7 @@ use Rattle.mpd_session.specs.declared.request.Command.TheVariants as command
 use Rattle.mpd_session.specs.declared.request.Request.{Request}
 use Rattle.mpd_session.specs.declared.reply.Reply.{Reply}
 use Rattle.mpd_vocabulary.specs.contracts.word.Word as word_row
-use Rattle.mpd_explain.specs.Standing.{standing_text}
-use Rattle.mpd_session.specs.Held.{Held, held_code, opened}
+use Rattle.mpd_session.specs.Held.{Held, held_code}
 use Rattle.mpd_session.specs.Respond.{respond, laid}
 use Rattle.mpd_vocabulary.specs.declared.word.Word.{Word}
 use Rattle.mpd_vocabulary.specs.declared.word.Word.TheVariants as word
@@ -27,16 +24,7 @@ use Rattle.mpd_vocabulary.specs.declared.word.WordFault.{WordFault}
 use Rattle.mpd_vocabulary.specs.declared.read.Line.{Line}
 use Rattle.mpd_vocabulary.specs.declared.read.Line.TheVariants.{Blank, Comment, Says, Evaluates, Reloads, Sources, Wrong}
 use Rattle.mpd_vocabulary.specs.Reading.{line_of, behind_word}
-use Rattle.mpd_console.specs.declared.prompts.Look.{Look}
-use Rattle.mpd_console.specs.declared.moves.Doing.{Doing}
-use Rattle.mpd_console.specs.declared.moves.Doing.TheVariants.{Asks, Undoes, Seeks, Follows, Blames, Looks}
-use Rattle.mpd_console.specs.News.{Known, told}
-use Rattle.mpd_console.specs.Moves.{doing_of, goto_command, lead_text, reply_text, way_known}
-use Rattle.mpd_blame.specs.declared.back.Blame.{Blame}
-use Rattle.mpd_blame.specs.declared.back.Blame.TheVariants as blame_is
-use Rattle.mpd_console.specs.Blamed.{TellsBlame}
-use Rattle.mpd_console.specs.Looks.{look_text}
-use Rattle.mpd_console.specs.Values.{asked_text, is_asked, kept_if}
+use Rattle.mpd_vocabulary.specs.Faults.{word_at}
 use Rattle.mpd_runs.specs.declared.counts.WayCounts.{WayCounts}
 use Rattle.mpd_runs.specs.declared.search.Scope.{Scope}
 use Rattle.mpd_runs.specs.declared.search.Scope.TheVariants.{Listed}
@@ -44,132 +32,76 @@ use Rattle.mpd_runs.specs.declared.search.Sought.{Sought}
 use Rattle.mpd_runs.specs.declared.search.Sought.TheVariants.{Found, Nothing}
 use Rattle.mpd_runs.specs.declared.search.WholeRun.{WholeRun}
 use Rattle.mpd_runs.specs.declared.way.Way.{Way}
-use Rattle.mpd_runs.specs.Runs.{fuel_at, none_line}
-use Rattle.mpd_runs.specs.Seek.{found_run, numbered_run, nothing_line, LeadsTo, LiesAhead, TooMany, ahead_line, no_run_line}
-use Rattle.mpd_runs.specs.LastChoice.{last_choice, no_choice_line}
-use Rattle.mpd_vocabulary.specs.Faults.{fault_text, word_at}
-use Rattle.mpd_lines.specs.Echo.{echo, long_echo}
-use Rattle.mpd_lines.specs.Folding.{folded_at}
-use Rattle.mpd_marks.specs.Marked.{marked}
+use Rattle.mpd_runs.specs.Runs.{fuel_at}
+use Rattle.mpd_runs.specs.Seek.{found_run, numbered_run, counts_in, LeadsTo, LiesAhead, TooMany}
+use Rattle.mpd_runs.specs.LastChoice.{last_choice}
+use Rattle.mpd_blame.specs.declared.back.Blame.{Blame}
+use Rattle.mpd_blame.specs.declared.back.Blame.TheVariants as blame_is
+use Rattle.mpd_console.specs.declared.prompts.Look.{Look}
+use Rattle.mpd_console.specs.declared.lead.Lead.{Lead}
+use Rattle.mpd_console.specs.declared.moves.Doing.{Doing}
+use Rattle.mpd_console.specs.declared.moves.Doing.TheVariants.{Asks, Undoes, Seeks, Follows, Blames, Looks}
+use Rattle.mpd_console.specs.declared.told.Carried.{Carried}
+use Rattle.mpd_console.specs.declared.told.Carried.TheVariants as carried
+use Rattle.mpd_console.specs.declared.told.First.{First}
+use Rattle.mpd_console.specs.declared.told.First.TheVariants as first
+use Rattle.mpd_console.specs.declared.told.Laid.{Laid}
+use Rattle.mpd_console.specs.declared.told.Sight.{Sight}
+use Rattle.mpd_console.specs.declared.told.Sight.TheVariants as sight
+use Rattle.mpd_console.specs.declared.told.Told.{Told}
+use Rattle.mpd_console.specs.declared.told.Told.TheVariants as told
+use Rattle.mpd_console.specs.declared.values.Valued.{Valued}
+use Rattle.mpd_console.specs.declared.values.Valued.TheVariants as valued
+use Rattle.mpd_console.specs.News.{depth_alone}
+use Rattle.mpd_console.specs.Moves.{doing_of, goto_command, lead_of}
+use Rattle.mpd_console.specs.Carried.{carried_by}
+use Rattle.mpd_console.specs.Looks.{sight_of}
+use Rattle.mpd_console.specs.Blamed.{IsBlamed}
+use Rattle.mpd_console.specs.Values.{valued_of, is_asked, kept_if}
 
--- the lines that stand in the place of an answer: where memory is refused before anything was done, and after that
-abbrev pub memory_line : List ℕ
-memory_line = line (codes "refused: memory")
+-- ---- a word that asks the session
 
-abbrev pub unprinted_line : List ℕ
-unprinted_line = line (codes "done, but memory for the answer was refused")
+-- a word, and what is known before it; no session holds a trail that leads nowhere
+abbrev pub lead_at : Trail → Word → Option World → Lead
+lead_at t x None = record { word = x; step = None; known = depth_alone t }
+lead_at t x (Some w) = lead_of t w x
 
-abbrev pub too_long_line : List ℕ
-too_long_line = line (codes "refused: this line is too long")
-
--- what is told of the world of a trail; no session holds a trail that leads nowhere
-abbrev pub at_world : (World → List ℕ) → Option World → List ℕ
-at_world tell None = []
-at_world tell (Some w) = tell w
-
--- ---- answers, each with the prompt after it
-
-abbrev pub prompt : Bool → Held → List ℕ
-prompt false s = []
-prompt true s = codes "(" ++ decimal s.trail.depth ++ codes ") "
-
--- an answer whose long lines go on in further lines
-abbrev pub said : Look → Held → List ℕ → List ℕ
-said p s told = folded_at p.width told ++ prompt p.is_prompting s
-
--- the same of one that has the places of marks of the script beside lines
-abbrev pub said_marked : Look → List ℕ → Held → List ℕ → List ℕ
-said_marked p script s told = said p s (marked script told)
-
-abbrev pub lead_said : Held → Word → List ℕ
-lead_said s x = at_world (λ w. lead_text s.trail w x) (world_of s.trail)
-
--- what is known of a session before a word
-abbrev pub known_at : Trail → Word → Option World → Known
-known_at t x None = told t.depth [] [] 0
-known_at t x (Some w) = way_known t w x
-
-abbrev pub known_in : Held → Word → Known
-known_in s x = known_at s.trail x (world_of s.trail)
-
-abbrev pub reply_said : Look → List ℕ → Held → Word → List ℕ → Known → Reply → List ℕ
-reply_said p script s x lead k r = said_marked p script s (at_world (λ w. reply_text script s.trail w s.breaks x lead k r) (world_of s.trail))
-
--- after `quit` no prompt stands
-abbrev pub prompts_behind : Bool → Word → Bool
-prompts_behind p word.Quit = false
-prompts_behind p other = p
-
--- what a word shows as it is, however long its lines are; of any other word the places of marks stand beside lines
-abbrev pub laid_out : ℕ → List ℕ → Word → List ℕ → List ℕ
-laid_out width script (word.List rank) told = told
-laid_out width script word.Show told = told
-laid_out width script word.Words told = told
-laid_out width script word.Picture told = told
-laid_out width script other told = folded_at width (marked script told)
-
-abbrev pub look_said : Look → List ℕ → Held → Word → List ℕ
-look_said p script s x = laid_out p.width script x (at_world (λ w. look_text s.trail w s.breaks script x) (world_of s.trail)) ++ prompt (prompts_behind p.is_prompting x) s
-
--- of a run that lies ahead, which ends so and has so many steps more than are taken; of the run of a number this, too
-abbrev pub laid_said : Look → List ℕ → Held → Option ℕ → Ending → ℕ → List ℕ
-laid_said p script s number e ahead = said_marked p script s (ahead_line s.trail.program.lines number e ahead ++ at_world (λ w. standing_text script s.trail w) (world_of s.trail))
-
--- of steps that lie ahead from the start of a script: how the run ends that they make
-abbrev pub AlongSaid : Program → Mode → Look → List ℕ → List Step → List ℕ → Type 0
-AlongSaid s mode p script steps text = (e : Ending) × LeadsTo (start s mode) steps e × (text ≡ laid_said p script (laid (opened s mode) steps) None e (length steps))
-
--- of the steps of a witness, which lie ahead from there: the same, and the run ends in what the witness leads to
-abbrev pub WitnessSaid : Program → Mode → Look → List ℕ → EndWitness → List ℕ → Type 0
-WitnessSaid s mode p script x text =
-    (e : Ending) × (end_of e ≡ Some x.end) × LeadsTo (start s mode) x.steps e × (text ≡ laid_said p script (laid (opened s mode) x.steps) None e (length x.steps))
-
-abbrev pub not_found_said : Look → Held → Way → WayCounts → List ℕ
-not_found_said p s x counts = said p s (none_line x counts)
-
-abbrev pub fault_said : Look → Held → List ℕ → WordFault → List ℕ
-fault_said p s z f = said p s (fault_text z f)
-
-abbrev pub none_said : Scope → Look → Held → Way → List ℕ
-none_said k p s x = said p s (at_world (λ w. nothing_line k x s.trail w) (world_of s.trail))
-
--- of what stands after `print` and is to be an expression
-abbrev pub value_said : Look → Held → List ℕ → List ℕ
-value_said p s z = said p s (at_world (λ w. asked_text s.trail.program w z) (world_of s.trail))
-
--- ---- what a word does to the session
-
--- the whole text, or the line that says that it is done
-abbrev pub Told : List ℕ → List ℕ → Type 0
-Told whole text = (text ≡ whole) ⊎ (text ≡ unprinted_line)
-
--- the whole text, or the line that says that memory was refused
-abbrev pub Looked : List ℕ → List ℕ → Type 0
-Looked whole text = (text ≡ whole) ⊎ (text ≡ memory_line)
+abbrev pub lead_in : Held → Word → Lead
+lead_in s x = lead_at s.trail x (world_of s.trail)
 
 abbrev pub asking : Command → Request
 asking c = record { command = c; at = None }
 
--- A word that asks the session: the session after it is the one after that request, and its reply is told; or memory was refused, and
--- the session is as before.
-abbrev pub Carried : Look → List ℕ → Held → Word → Command → Held → List ℕ → Type 0
-Carried p script s x c t text =
-    ((t ≡ (respond s (asking c)).1) × Told (reply_said p script t x (lead_said s x) (known_in s x) (respond s (asking c)).0) text) ⊎ ((t ≡ s) × (text ≡ memory_line))
+-- what a request came to, given the session after it, and what was known before
+abbrev pub carried_at : Held → Lead → Reply → Option World → Carried
+carried_at t l r None = carried.Nothing
+carried_at t l r (Some w) = carried_by t.trail w t.breaks l r
 
--- A word that is refused by its own: the session is as before.
-abbrev pub Refused : Look → Held → List ℕ → Held → List ℕ → Type 0
-Refused p s told t text = (t ≡ s) × (Told (said p s told) text ⊎ (text ≡ memory_line))
+abbrev pub carried_in : Held → Lead → Reply → Carried
+carried_in t l r = carried_at t l r (world_of t.trail)
+
+-- of a word and its request, before it and after it
+abbrev pub carried_of : Held → Word → Command → Held → Carried
+carried_of s x c t = carried_in t (lead_in s x) (respond s (asking c)).0
+
+-- The session after it is the one after that request, and what that came to is told, unless memory for that is refused.
+abbrev pub CarriedBy : Held → Word → Command → Option Told → Held → Type 0
+CarriedBy s x c o t = (t ≡ (respond s (asking c)).1) × IfSome o (λ k. k ≡ told.Carried (carried_of s x c t))
+
+-- ---- other words
 
 -- The last choice is gone back to, by a request for it, or none was made.
-abbrev pub UndoneBy : Look → List ℕ → Held → Word → Option ℕ → Held → List ℕ → Type 0
-UndoneBy p script s x None t text = Refused p s no_choice_line t text
-UndoneBy p script s x (Some n) t text = Carried p script s x (command.Goto n) t text
+abbrev pub UndoneBy : Held → Word → Option ℕ → Option Told → Held → Type 0
+UndoneBy s x None o t = (t ≡ s) × (o ≡ Some told.NoChoice)
+UndoneBy s x (Some n) o t = CarriedBy s x (command.Goto n) o t
 
--- A run lies ahead: its steps are those that are kept, of which as many are not undone as were before; or memory was refused, and the
--- session is as before.
-abbrev pub LaidBy : Look → List ℕ → Held → Option ℕ → WholeRun → Held → List ℕ → Type 0
-LaidBy p script s number r t text =
-    (LiesAhead s.trail r × (t ≡ laid s r.steps) × Told (laid_said p script t number r.ending (length r.steps - s.trail.depth)) text) ⊎ ((t ≡ s) × (text ≡ memory_line))
+-- what is told of a run that lies ahead
+abbrev pub laid_run : Held → Option ℕ → WholeRun → Laid
+laid_run s number r = record { number = number; ending = r.ending; ahead = length r.steps - s.trail.depth }
+
+-- A run lies ahead: its steps are those that are kept, of which as many are not undone as were before.
+abbrev pub LaidBy : Held → Option ℕ → WholeRun → Option Told → Held → Type 0
+LaidBy s number r o t = LiesAhead s.trail r × (t ≡ laid s r.steps) × (o ≡ Some (told.Laid (laid_run s number r)))
 
 -- the first run from where a session stands that ends so, of those that are looked at, and the run of a number
 abbrev pub found_from : Scope → Held → Way → Option WholeRun
@@ -182,47 +114,63 @@ numbered_from s n = option_and_then (λ w. numbered_run n s.trail w) (world_of s
 abbrev pub WhyListed : Scope → Held → Way → Type 0
 WhyListed k s x = k ≡ Listed → IfSome (world_of s.trail) (TooMany x (fuel_at s.trail.depth))
 
--- what a search from a session has found, in the words of that session
+-- how the runs end that are looked at from a session
+abbrev pub AreCounts : Scope → Held → WayCounts → Type 0
+AreCounts k s counts = IfSome (world_of s.trail) (λ w. counts ≡ counts_in k (fuel_at s.trail.depth) w)
+
+-- No run ends so, of those that are looked at: how these end is told.
+abbrev pub NoneFound : Scope → Held → Way → Option Told → Type 0
+NoneFound k s x o = (counts : WayCounts) × AreCounts k s counts × (o ≡ Some (told.NoneEnds x k counts))
+
+abbrev pub SoughtBy : Scope → Held → Way → Option WholeRun → Option Told → Held → Type 0
+SoughtBy k s x None o t = (t ≡ s) × NoneFound k s x o
+SoughtBy k s x (Some r) o t = LaidBy s None r o t
+
+-- what a search from a session has found
 abbrev pub FoundAs : Scope → Held → Way → Sought → Type 0
 FoundAs k s x (Found r) = found_from k s x ≡ Some r
-FoundAs k s x (Nothing counts) = (found_from k s x ≡ None) × ((p : Look) → not_found_said p s x counts ≡ none_said k p s x)
+FoundAs k s x (Nothing counts) = (found_from k s x ≡ None) × AreCounts k s counts
 
 abbrev pub IsFoundFrom : Scope → Held → Way → Sought → Type 0
 IsFoundFrom k s x q = WhyListed k s x × FoundAs k s x q
 
-abbrev pub SoughtBy : Scope → Look → List ℕ → Held → Way → Option WholeRun → Held → List ℕ → Type 0
-SoughtBy k p script s x None t text = (t ≡ s) × Looked (none_said k p s x) text
-SoughtBy k p script s x (Some r) t text = LaidBy p script s None r t text
-
 -- All runs of the wide walk are looked at, or those that are listed.
-abbrev pub SoughtFrom : Look → List ℕ → Held → Way → Held → List ℕ → Type 0
-SoughtFrom p script s x t text = (k : Scope) × WhyListed k s x × SoughtBy k p script s x (found_from k s x) t text
+abbrev pub SoughtFrom : Held → Way → Option Told → Held → Type 0
+SoughtFrom s x o t = (k : Scope) × WhyListed k s x × SoughtBy k s x (found_from k s x) o t
 
-abbrev pub FollowedBy : Look → List ℕ → Held → ℕ → Option WholeRun → Held → List ℕ → Type 0
-FollowedBy p script s n None t text = Refused p s no_run_line t text
-FollowedBy p script s n (Some r) t text = LaidBy p script s (Some n) r t text
-
--- a line is told, or memory for it was refused; and what `goto` answers of a depth
-abbrev pub IsGone : Look → List ℕ → Held → ℕ → List ℕ → Held → List ℕ → Type 0
-IsGone p script s depth told t text =
-    ((rest : List ℕ) × (text ≡ folded_at p.width (marked script told) ++ rest) × Carried p script s (word.Goto depth) (goto_command s.trail depth) t rest) ⊎ ((t ≡ s) × (text ≡ memory_line))
+abbrev pub FollowedBy : Held → ℕ → Option WholeRun → Option Told → Held → Type 0
+FollowedBy s n None o t = (t ≡ s) × (o ≡ Some told.NoRun)
+FollowedBy s n (Some r) o t = LaidBy s (Some n) r o t
 
 -- The step that decided is told, and it is gone to, as `goto` goes there; or where it isn't known which, that is told.
-abbrev pub BlamedAs : Look → List ℕ → Held → Blame → List ℕ → Held → List ℕ → Type 0
-BlamedAs p script s (blame_is.At d) told t text = IsGone p script s d.depth told t text
-BlamedAs p script s b told t text = (t ≡ s) × Looked (said_marked p script s told) text
+abbrev pub BlamedAs : Held → Blame → Option ℕ → Option Told → Held → Type 0
+BlamedAs s (blame_is.At d) n o t =
+    (t ≡ (respond s (asking (goto_command s.trail d.depth))).1)
+    × IfSome o (λ k. k ≡ told.Blamed (record { blame = blame_is.At d; number = n; gone = Some (carried_of s (word.Goto d.depth) (goto_command s.trail d.depth) t) }))
+BlamedAs s b n o t = (t ≡ s) × (o ≡ Some (told.Blamed (record { blame = b; number = n; gone = None })))
 
--- It is told of the run that is kept; or memory was refused, and the session is as before.
-abbrev pub BlamedBy : Look → List ℕ → Held → Held → List ℕ → Type 0
-BlamedBy p script s t text = ((b : Blame) × (told : List ℕ) × TellsBlame s.trail b told × BlamedAs p script s b told t text) ⊎ ((t ≡ s) × (text ≡ memory_line))
+-- It is told of the run that is kept.
+abbrev pub BlamedBy : Held → Option Told → Held → Type 0
+BlamedBy s o t = (b : Blame) × (n : Option ℕ) × IsBlamed s.trail b n × BlamedAs s b n o t
 
-abbrev pub AnsweredBy : Look → List ℕ → Held → Word → Doing → Held → List ℕ → Type 0
-AnsweredBy p script s x (Asks c) t text = Carried p script s x c t text
-AnsweredBy p script s x Undoes t text = UndoneBy p script s x (last_choice s.trail) t text
-AnsweredBy p script s x (Seeks way) t text = SoughtFrom p script s way t text
-AnsweredBy p script s x (Follows n) t text = FollowedBy p script s n (numbered_from s n) t text
-AnsweredBy p script s x Blames t text = BlamedBy p script s t text
-AnsweredBy p script s x Looks t text = (t ≡ s) × Looked (look_said p script s x) text
+-- what a word looks at
+abbrev pub sight_at : Trail → Word → Option World → Sight
+sight_at t x None = sight.Nothing
+sight_at t x (Some w) = sight_of t w x
+
+abbrev pub sight_in : Held → Word → Sight
+sight_in s x = sight_at s.trail x (world_of s.trail)
+
+-- ---- any word
+
+-- A word does this with a session s, which is t after it; what it did is told, unless memory for that is refused.
+abbrev pub DoneBy : Held → Word → Doing → Option Told → Held → Type 0
+DoneBy s x (Asks c) o t = CarriedBy s x c o t
+DoneBy s x Undoes o t = UndoneBy s x (last_choice s.trail) o t
+DoneBy s x (Seeks way) o t = SoughtFrom s way o t
+DoneBy s x (Follows n) o t = FollowedBy s n (numbered_from s n) o t
+DoneBy s x Blames o t = BlamedBy s o t
+DoneBy s x Looks o t = (t ≡ s) × (o ≡ Some (told.Looks (sight_in s x)))
 
 -- what a word does with a session; no session holds a trail that leads nowhere
 abbrev pub doing_at : Trail → Word → Option World → Doing
@@ -232,15 +180,29 @@ doing_at t x (Some w) = doing_of t w x
 abbrev pub doing_in : Held → Word → Doing
 doing_in s x = doing_at s.trail x (world_of s.trail)
 
--- A word is answered, given the text of the script and how answers look.
-abbrev pub Answered : Look → List ℕ → Held → Word → Held → List ℕ → Type 0
-Answered p script s x t text = AnsweredBy p script s x (doing_in s x) t text
+abbrev pub Does : Held → Word → Option Told → Held → Type 0
+Does s x o t = DoneBy s x (doing_in s x) o t
 
--- The value of an expression is told, or why it is none; the next empty line tells it again, if it is one.
-abbrev pub Evaluated : Look → Held → List ℕ → List ℕ → List ℕ → List ℕ → Type 0
-Evaluated p s old z new text = ((new ≡ kept_if (is_asked s.trail.program.decls z) z old) × Looked (value_said p s z) text) ⊎ ((new ≡ old) × (text ≡ memory_line))
+-- ---- an expression
+
+-- what an expression comes to in a session, as a text spells it
+abbrev pub valued_at : Trail → List ℕ → Option World → Valued
+valued_at t z None = valued.NoRank
+valued_at t z (Some w) = valued_of t.program w z
+
+abbrev pub valued_in : Held → List ℕ → Valued
+valued_in s z = valued_at s.trail z (world_of s.trail)
+
+-- The next empty line tells it again, if it is one; or memory was refused, and what is kept stays.
+abbrev pub Evaluated : Held → List ℕ → List ℕ → List ℕ → Type 0
+Evaluated s old z new = (new ≡ kept_if (is_asked s.trail.program.decls z) z old) ⊎ (new ≡ old)
 
 -- ---- lines
+
+-- whether no expression is kept
+abbrev pub keeps_none : List ℕ → Bool
+keeps_none [] = true
+keeps_none (b ∷ z) = false
 
 -- what a console holds: a session, the text of its script, what an empty line repeats, which is an expression or, where that is empty,
 -- a word, the file whose words are to be answered, which is empty if none is, and how answers look
@@ -263,22 +225,26 @@ console_code =
     (coded× held_code (coded× (coded_list coded_ℕ) (coded× (coded_option word_row.the_row.coded) (coded× (coded_list coded_ℕ) (coded× (coded_list coded_ℕ) look_code)))))
     (λ d. (d.session, (d.script, (d.last, (d.asked, (d.named, d.look)))))) (λ q. record { session = q.0; script = q.1.0; last = q.1.1.0; asked = q.1.1.1.0; named = q.1.1.1.1.0; look = q.1.1.1.1.1 }) (λ _. refl)
 
-abbrev pub WordSays : Console → Word → List ℕ → Console → Type 0
-WordSays d x text e = (e.script ≡ d.script) × (e.last ≡ d.last) × (e.asked ≡ d.asked) × (e.named ≡ d.named) × (e.look ≡ d.look) × Answered d.look d.script d.session x e.session text
+-- a console that has answered nothing
+abbrev pub console_of : Held → List ℕ → Look → Console
+console_of s script look = record { session = s; script = script; last = None; asked = []; named = []; look = look }
 
-abbrev pub RepeatSays : Console → Option Word → List ℕ → Console → Type 0
-RepeatSays d None text e = (e ≡ d) × Looked (prompt d.look.is_prompting d.session) text
-RepeatSays d (Some x) text e = WordSays d x text e
+-- A console d does a word, and is e then; what it did is told, unless memory for that is refused.
+abbrev pub WordDone : Console → Word → Option Told → Console → Type 0
+WordDone d x o e = (e ≡ record d { session = e.session }) × Does d.session x o e.session
 
--- whether no expression is kept
-abbrev pub keeps_none : List ℕ → Bool
-keeps_none [] = true
-keeps_none (b ∷ z) = false
+-- The word is done, or memory was refused, and the console is as before.
+abbrev pub WordSays : Console → Word → Console → Type 0
+WordSays d x e = ((o : Option Told) × WordDone d x o e) ⊎ (e ≡ d)
+
+abbrev pub RepeatSays : Console → Option Word → Console → Type 0
+RepeatSays d None e = e ≡ d
+RepeatSays d (Some x) e = WordSays d x e
 
 -- what an empty line does: it tells an expression again, if one is kept
-abbrev pub BlankSays : Console → List ℕ → List ℕ → Console → Type 0
-BlankSays d [] text e = RepeatSays d d.last text e
-BlankSays d (b ∷ z) text e = (e ≡ d) × Looked (value_said d.look d.session (b ∷ z)) text
+abbrev pub BlankSays : Console → List ℕ → Console → Type 0
+BlankSays d [] e = RepeatSays d d.last e
+BlankSays d (b ∷ z) e = e ≡ d
 
 -- what an empty line does after a word: `next` lists the candidates of the next choice, and doesn't take one of the same number
 abbrev pub again : Word → Word
@@ -286,41 +252,48 @@ again (word.Next n) = word.Next None
 again other = other
 
 -- a name is kept, which what reads files takes, or memory for it was refused
-abbrev pub NameSays : Console → List ℕ → List ℕ → Console → Type 0
-NameSays d name text e = ((e ≡ record d { named = name }) × (text ≡ [])) ⊎ ((e ≡ record d { named = [] }) × (text ≡ memory_line))
+abbrev pub NameSays : Console → List ℕ → Console → Type 0
+NameSays d name e = (e ≡ record d { named = name }) ⊎ (e ≡ record d { named = [] })
 
-abbrev pub LineSays : Console → Line → List ℕ → List ℕ → Console → Type 0
-LineSays d Blank z text e = BlankSays d d.asked text e
-LineSays d Comment z text e = (e ≡ d) × Looked (prompt d.look.is_prompting d.session) text
-LineSays d (Says x) z text e = WordSays (record d { last = Some (again x); asked = [] }) x text e
-LineSays d Evaluates z text e = (e ≡ record d { asked = e.asked }) × Evaluated d.look d.session d.asked (behind_word z) e.asked text
+abbrev pub LineSays : Console → Line → List ℕ → Console → Type 0
+LineSays d Blank z e = BlankSays d d.asked e
+LineSays d Comment z e = e ≡ d
+LineSays d (Says x) z e = WordSays (record d { last = Some (again x); asked = [] }) x e
+LineSays d Evaluates z e = (e ≡ record d { asked = e.asked }) × Evaluated d.session d.asked (behind_word z) e.asked
 -- what reads the script again answers
-LineSays d Reloads z text e = (e ≡ d) × (text ≡ [])
-LineSays d Sources z text e = NameSays d (word_at (words z) 1) text e
-LineSays d (Wrong f) z text e = (e ≡ d) × Looked (fault_said d.look d.session z f) text
+LineSays d Reloads z e = e ≡ d
+LineSays d Sources z e = NameSays d (word_at (words z) 1) e
+LineSays d (Wrong f) z e = e ≡ d
 
-abbrev pub SaysBy : Bool → Console → List ℕ → List ℕ → Console → Type 0
-SaysBy true d z text e = (e ≡ d) × (text ≡ too_long_line ++ prompt d.look.is_prompting d.session)
-SaysBy false d z text e = LineSays d (line_of d.session.trail.program.decls z) z text e
+abbrev pub SaysBy : Bool → Console → List ℕ → Console → Type 0
+SaysBy true d z e = e ≡ d
+SaysBy false d z e = LineSays d (line_of d.session.trail.program.decls z) z e
 
--- what is shown of a line before its answer, and of one that is too long
-abbrev pub shown : Bool → List ℕ → List ℕ
-shown false z = []
-shown true z = echo [] z
-
-abbrev pub long_shown : Bool → List ℕ
-long_shown false = []
-long_shown true = long_echo []
-
--- A console d answers a line by this text, and is e then: by what is shown of the line, and an answer.
+-- A console d answers a line by some text, and is e then. What the text says of it is plain code.
 abbrev pub ConsoleSays : Console → List ℕ → List ℕ → Console → Type 0
-ConsoleSays d z text e = (answer : List ℕ) × (text ≡ shown d.look.is_echoing z ++ answer) × SaysBy (nat_lt LINE_MAX (length z)) d z answer e
+ConsoleSays d z text e = SaysBy (nat_lt LINE_MAX (length z)) d z e
 
--- ---- the same, of what is added to a text
+-- ---- what a console tells first
 
-abbrev pub Adds : (List ℕ → Type 0) → List ℕ → List ℕ → Type 0
-Adds P before after = (text : List ℕ) × (after ≡ before ++ text) × P text
+-- the run that some steps make, all of which lie ahead
+abbrev pub run_ahead : List Step → Ending → Laid
+run_ahead steps e = record { number = None; ending = e; ahead = length steps }
 
--- a text, or the line in its place
-abbrev pub OrElse : List ℕ → List ℕ → List ℕ → Type 0
-OrElse whole otherwise text = (text ≡ whole) ⊎ (text ≡ otherwise)
+-- of steps that lie ahead from the start of a script: how the run ends that they make
+abbrev pub TellsRun : Program → Mode → List Step → First → Type 0
+TellsRun s mode steps f = (e : Ending) × LeadsTo (start s mode) steps e × (f ≡ first.Ahead (run_ahead steps e))
+
+-- of the steps of a witness: the same, and the run ends in what the witness leads to
+abbrev pub TellsWitness : Program → Mode → EndWitness → First → Type 0
+TellsWitness s mode x f = (e : Ending) × (end_of e ≡ Some x.end) × LeadsTo (start s mode) x.steps e × (f ≡ first.Ahead (run_ahead x.steps e))
+
+-- ---- answers
+
+-- the depth that a prompt shows, where one is wanted
+abbrev pub prompted : Bool → Held → Option ℕ
+prompted is_prompting s = if is_prompting then Some s.trail.depth else None
+
+-- ---- what stood in a text before something is added to it stays
+
+abbrev pub Adds : List ℕ → List ℕ → Type 0
+Adds before after = (text : List ℕ) × (after ≡ before ++ text)

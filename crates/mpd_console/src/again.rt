@@ -9,14 +9,14 @@ ghost use Rattle.mpd_console.specs.Again as spec;
 ghost use Rattle.mpd_console.specs.Says as says;
 
 use crate::desk::{ConsoleDesk, Screen};
-use crate::moves::push_break_line;
 use crate::opening::Opened;
-use crate::prompts::{marked_bytes, said, said_bytes};
+use crate::prompts::{laid_out, marked_bytes, prompt};
+use crate::saying::{push_break_line, push_where};
+use crate::told::{First, Numbered, NumberedList};
 use mpd_code::{Code, Subject};
-use mpd_explain::push_standing;
 use mpd_model::{BREAKS_MAX, Breakpoint, ReadFault, Step};
 use mpd_names::push_break;
-use mpd_policy::{Breaks, decide};
+use mpd_policy::Breaks;
 use mpd_runs::push_count;
 use mpd_session::{Command, Reply, Request, Session};
 use mpd_vocabulary::{Line, Word, line_of};
@@ -27,11 +27,13 @@ use std::alloc::{AllocError, Global};
 pub struct Kept {
     /// The steps that are taken.
     pub steps: Vec<Step>,
-    /// The breakpoints by number, as the script that was read again has them: none in a place that is free, and of one that can't be
-    /// set there.
+    /// The breakpoints by number, as the script that was read again has them: none in a place that is
+    /// free, and of one that can't be set there.
     pub breaks: Vec<Option<Breakpoint>>,
-    /// A line for each of the latter, with the places of marks of the script that was.
-    pub lost: Vec<u8>,
+    /// The latter, as the script that was has them.
+    pub lost: NumberedList,
+    /// A line for each of these, with the places of marks of that script.
+    words: Vec<u8>,
 }
 
 /// The breakpoint that a line sets.
@@ -132,47 +134,54 @@ fn places_again(
     Ok(places)
 }
 
-/// Adds what is told of the breakpoint of a place if it can't be set in the other script.
-fn push_lost_at(
-    out: &mut String,
+/// Adds the breakpoint of a place if it can't be set in the other script.
+fn push_lost(
+    alloc: Global,
+    list: &mut Vec<Numbered>,
     old: &Code,
     new: &Code,
     breaks: &Breaks,
     number: usize,
 ) -> Result<(), AllocError>
-    ensures { OnOk result (string_bytes out.new ≡ string_bytes out.old ++ spec.lost_of old.now.program.decls new.now.program number (break_at breaks.now number)) }
+    ensures { OnOk result (list.new.items ≡ list.old.items ++ spec.lost_at old.now.program.decls new.now.program number (break_at breaks.now number)) }
 {
     let Some(stop) = breaks.breakpoint(number) else {
         return Ok(());
     };
-    match break_again(*out.allocator(), old, new, stop)? {
-        Some(_) => Ok(()),
-        None => {
-            out.push_str("not set again: ")?;
-            push_break_line(out, old.decls(), number, stop)
-        }
-    }
-}
-
-/// Adds what is told of all that can't be.
-fn push_lost(out: &mut String, old: &Code, new: &Code, breaks: &Breaks) -> Result<(), AllocError>
-    ensures { OnOk result (string_bytes out.new ≡ string_bytes out.old ++ spec.lost_text old.now.program.decls new.now.program breaks.now) }
-{
-    for number in 0..BREAKS_MAX {
-        push_lost_at(out, old, new, breaks, number)?;
+    if break_again(alloc, old, new, stop)?.is_none() {
+        list.push(Numbered { number, stop })?;
     }
     Ok(())
 }
 
-/// The same of a console, with the places of marks of its script.
-#[tactic(auto, using(crate::proofs::AgainLemmas::losing))]
-fn lost_said(alloc: Global, desk: &ConsoleDesk<'_, '_>, new: &Code) -> Result<Vec<u8>, AllocError>
-    ensures { IfOk result (λ t. t.items ≡ spec.lost_said desk.now.script desk.now.session new.now.program) }
+/// All that can't be.
+fn lost_again(
+    alloc: Global,
+    old: &Code,
+    new: &Code,
+    breaks: &Breaks,
+) -> Result<Vec<Numbered>, AllocError>
+    ensures { IfOk result (λ list. list.items ≡ spec.lost_again old.now.program.decls new.now.program breaks.now) }
 {
-    let session = desk.session();
-    let mut lost = String::new(alloc);
-    push_lost(&mut lost, session.code(), new, session.breaks())?;
-    marked_bytes(alloc, desk.screen().script, &lost)
+    let mut list = Vec::new(alloc);
+    for number in 0..BREAKS_MAX {
+        push_lost(alloc, &mut list, old, new, breaks, number)?;
+    }
+    Ok(list)
+}
+
+/// What is said of these, with the places of marks of the script that has them.
+fn lost_bytes(
+    alloc: Global,
+    desk: &ConsoleDesk<'_, '_>,
+    lost: &[Numbered],
+) -> Result<Vec<u8>, AllocError> {
+    let mut text = String::new(alloc);
+    for set in lost {
+        text.push_str("not set again: ")?;
+        push_break_line(&mut text, desk.session().code().decls(), *set)?;
+    }
+    marked_bytes(alloc, desk.screen().script, &text)
 }
 
 /// The steps that a session has taken.
@@ -187,17 +196,21 @@ fn steps_of(alloc: Global, session: &Session<'_>) -> Result<Vec<Step>, AllocErro
     Ok(steps)
 }
 
-/// What is kept of a console if its script is read again, given the code of that. An `Err` is want of memory. The console is as it was.
+/// What is kept of a console if its script is read again, given the code of that. An `Err` is want
+/// of memory. The console is as it was.
 pub fn keep(alloc: Global, desk: &ConsoleDesk<'_, '_>, new: &Code) -> Result<Kept, AllocError>
     ensures steps { IfOk result (λ k. k.steps.items ≡ done_steps desk.now.session.trail) }
     ensures breaks { IfOk result (λ k. k.breaks.items ≡ spec.places_again desk.now.session.trail.program.decls new.now.program desk.now.session.breaks) }
-    ensures lost { IfOk result (λ k. k.lost.items ≡ spec.lost_said desk.now.script desk.now.session new.now.program) }
+    ensures lost { IfOk result (λ k. k.lost ≡ spec.lost_again desk.now.session.trail.program.decls new.now.program desk.now.session.breaks) }
 {
     let session = desk.session();
+    let lost = lost_again(alloc, session.code(), new, session.breaks())?;
+    let words = lost_bytes(alloc, desk, &lost)?;
     Ok(Kept {
         steps: steps_of(alloc, session)?,
         breaks: places_again(alloc, session.code(), new, session.breaks())?,
-        lost: lost_said(alloc, desk, new)?,
+        lost: NumberedList { items: lost },
+        words,
     })
 }
 
@@ -280,70 +293,27 @@ fn take_again(alloc: Global, session: &mut Session<'_>, steps: &[Step]) -> Resul
     Ok(steps.len())
 }
 
-/// Adds how many steps were taken again.
-fn push_head(out: &mut String, taken: usize) -> Result<(), AllocError>
-    ensures { OnOk result (string_bytes out.new ≡ string_bytes out.old ++ spec.head_words taken) }
-{
-    write!(out, "{taken} of ")
-}
-
-/// Adds of how many.
-fn push_taken(out: &mut String, all: usize) -> Result<(), AllocError>
-    ensures { OnOk result (string_bytes out.new ≡ string_bytes out.old ++ spec.taken_words all) }
-{
-    push_count(out, all)?;
-    out.push_str(" taken again\n")
-}
-
-/// Adds both.
-fn push_again(out: &mut String, taken: usize, all: usize) -> Result<(), AllocError>
-    ensures { OnOk result (string_bytes out.new ≡ string_bytes out.old ++ spec.again_line taken all) }
-{
-    push_head(out, taken)?;
-    push_taken(out, all)
-}
-
-/// Where a session stands, with the places of marks of its script.
-#[tactic(auto, using(crate::proofs::SaidLemmas::standing))]
-fn standing_said(alloc: Global, session: &Session<'_>, script: &[u8]) -> Result<Vec<u8>, AllocError>
-    ensures { IfOk result (λ t. t.items ≡ spec.standing_said script.now session.now) }
-{
-    let mut told = String::new(alloc);
-    let debugger = session.debugger();
-    debugger.state_is_reached();
-    let decided = decide(alloc, debugger.core())?;
-    push_standing(alloc, debugger, script, &mut told, decided)?;
-    marked_bytes(alloc, script, &told)
-}
-
-/// How many steps were taken again, of how many.
-#[tactic(auto, using(crate::proofs::AgainLemmas::telling))]
-fn again_line(alloc: Global, taken: usize, all: usize) -> Result<String, AllocError>
-    ensures { IfOk result (λ t. string_bytes t ≡ spec.again_line taken all) }
-{
-    let mut told = String::new(alloc);
-    push_again(&mut told, taken, all)?;
-    Ok(told)
-}
-
-/// What is told of a session that began anew.
-#[tactic(auto, using(crate::proofs::AgainLemmas::telling))]
-fn again_text(
+/// What is said of a session that began anew, and where it stands.
+fn again_bytes(
     alloc: Global,
     session: &Session<'_>,
     screen: Screen<'_>,
     taken: usize,
     kept: &Kept,
-) -> Result<Vec<u8>, AllocError>
-    ensures { IfOk result (λ t. t.items ≡ spec.again_said screen.entry.look screen.entry.script.now session.now taken (length kept.now.steps.items) kept.now.lost.items) }
-{
-    let line = again_line(alloc, taken, kept.steps.len())?;
-    let standing = standing_said(alloc, session, screen.script)?;
+) -> Result<Vec<u8>, AllocError> {
+    let Screen { script, look } = screen;
+    let mut line = String::new(alloc);
+    write!(line, "{taken} of ")?;
+    push_count(&mut line, kept.steps.len())?;
+    line.push_str(" taken again\n")?;
+    let mut standing = String::new(alloc);
+    push_where(alloc, session, script, &mut standing)?;
+    let standing = marked_bytes(alloc, script, &standing)?;
     let mut told = Vec::new(alloc);
     told.extend_from_slice(line.as_bytes())?;
-    told.extend_from_slice(&kept.lost)?;
+    told.extend_from_slice(&kept.words)?;
     told.extend_from_slice(&standing)?;
-    said_bytes(alloc, session, screen.look, &told)
+    laid_out(alloc, &told, look.width, prompt(session, look.is_prompting))
 }
 
 /// Has a session at the start of a script be where the one was that is kept: sets its breakpoints again, and takes its steps again as far as
@@ -357,38 +327,50 @@ fn go_there(alloc: Global, session: &mut Session<'_>, kept: &Kept) -> Result<usi
     take_again(alloc, session, &kept.steps)
 }
 
-/// What a session says that began anew, and where it stands, given its console.
-fn said_again(
+/// A console on a session that has gone where the one was that is kept, of whose steps it has taken
+/// so many. `Err` means that memory was refused.
+fn console_again<'c, 't>(
     alloc: Global,
-    session: &mut Session<'_>,
-    screen: Screen<'_>,
+    session: Session<'c>,
+    screen: Screen<'t>,
+    taken: usize,
     kept: &Kept,
-) -> Result<Vec<u8>, AllocError>
-    ensures said { IfOk result (λ t. t.items ≡ spec.told_again screen.entry.look screen.entry.script.now session.old kept.now.breaks.items kept.now.steps.items kept.now.lost.items) }
-    ensures session { OnOk result (session.new ≡ spec.gone_again session.old kept.now.breaks.items kept.now.steps.items) }
+) -> Result<Opened<'c, 't>, AllocError>
+    ensures desk { IfOk result (λ o. o.desk ≡ says.console_of session.entry screen.entry.script.now screen.entry.look) }
+    ensures first { IfOk result (λ o. o.first ≡ First.Again taken (length kept.now.steps.items)) }
 {
-    let taken = go_there(alloc, session, kept)?;
-    again_text(alloc, session, screen, taken, kept)
+    match again_bytes(alloc, &session, screen, taken, kept) {
+        Ok(said) => Ok(Opened {
+            desk: ConsoleDesk::new(alloc, session, screen),
+            first: First::Again {
+                taken,
+                all: kept.steps.len(),
+            },
+            said,
+        }),
+        Err(error) => {
+            drop(session);
+            Err(error)
+        }
+    }
 }
 
-/// A console at the start of the script that was read again, which has gone where the one was that is kept: its breakpoints are set again, and
-/// its steps are taken again one after another, up to the first that isn't enabled. It says how many, which breakpoints are not set,
-/// and where it stands. An `Err` is want of memory.
+/// A console at the start of the script that was read again, which has gone where the one was that is
+/// kept: its breakpoints are set again, and its steps are taken again one after another, up to the
+/// first that isn't enabled. It says how many, which breakpoints are not set, and where it stands. An
+/// `Err` is want of memory.
 pub fn reopen<'c, 't>(
     alloc: Global,
     subject: Subject<'c>,
     screen: Screen<'t>,
     kept: &Kept,
 ) -> Result<Opened<'c, 't>, AllocError>
-    ensures desk { IfOk result (λ o. o.desk ≡ record { session = spec.gone_again (opened subject.entry.code.now.program subject.entry.mode) kept.now.breaks.items kept.now.steps.items; script = screen.entry.script.now; last = None; asked = []; named = []; look = screen.entry.look }) }
-    ensures said { IfOk result (λ o. o.said.items ≡ spec.told_again screen.entry.look screen.entry.script.now (opened subject.entry.code.now.program subject.entry.mode) kept.now.breaks.items kept.now.steps.items kept.now.lost.items) }
+    ensures desk { IfOk result (λ o. o.desk ≡ says.console_of (spec.gone_again (opened subject.entry.code.now.program subject.entry.mode) kept.now.breaks.items kept.now.steps.items) screen.entry.script.now screen.entry.look) }
+    ensures first { IfOk result (λ o. o.first ≡ spec.told_again (opened subject.entry.code.now.program subject.entry.mode) kept.now.breaks.items kept.now.steps.items) }
 {
     let mut session = Session::start(alloc, subject.code, subject.mode)?;
-    match said_again(alloc, &mut session, screen, kept) {
-        Ok(said) => {
-            let desk = ConsoleDesk::new(alloc, session, screen);
-            Ok(Opened { desk, said })
-        }
+    match go_there(alloc, &mut session, kept) {
+        Ok(taken) => console_again(alloc, session, screen, taken, kept),
         Err(error) => {
             drop(session);
             Err(error)
@@ -407,49 +389,25 @@ pub enum Unread {
     Memory,
 }
 
-/// Adds a fault, and its line.
-fn push_fault_words(out: &mut String, fault: ReadFault, line: usize) -> Result<(), AllocError>
-    ensures { OnOk result (string_bytes out.new ≡ string_bytes out.old ++ spec.fault_words fault line) }
-{
-    write!(out, "{fault} line {line}\n")
-}
-
-/// Adds that a script has a fault.
-fn push_script_fault(out: &mut String, fault: ReadFault, line: usize) -> Result<(), AllocError>
-    ensures { OnOk result (string_bytes out.new ≡ string_bytes out.old ++ spec.script_fault_line fault line) }
-{
-    out.push_str("refused: the script has a fault, ")?;
-    push_fault_words(out, fault, line)
-}
-
-/// Adds that a file can't be read.
-fn push_no_file(out: &mut String) -> Result<(), AllocError>
-    ensures { OnOk result (string_bytes out.new ≡ string_bytes out.old ++ spec.no_file_line) }
-{
-    out.push_str("refused: the file can't be read\n")
-}
-
-/// Adds why a script isn't read again.
-fn push_unread(out: &mut String, why: Unread) -> Result<(), AllocError>
-    ensures { OnOk result (string_bytes out.new ≡ string_bytes out.old ++ spec.unread_line why) }
-{
-    match why {
-        Unread::Script(fault, line) => push_script_fault(out, fault, line),
-        Unread::File => push_no_file(out),
-        Unread::Memory => out.push_str("refused: memory\n"),
-    }
-}
-
-/// What a console says if its script isn't read again: one line. Nothing has changed. An `Err` is want of memory.
-#[tactic(auto, using(crate::proofs::SaidLemmas::saying))]
+/// What a console says if its script isn't read again: one line. Nothing has changed. An `Err` is
+/// want of memory.
 pub fn refused_again(
     alloc: Global,
     desk: &ConsoleDesk<'_, '_>,
     why: Unread,
-) -> Result<Vec<u8>, AllocError>
-    ensures { IfOk result (λ t. t.items ≡ says.said desk.now.look desk.now.session (spec.unread_line why)) }
-{
+) -> Result<Vec<u8>, AllocError> {
     let mut told = String::new(alloc);
-    push_unread(&mut told, why)?;
-    said(alloc, desk.session(), desk.screen().look, &told)
+    match why {
+        Unread::Script(fault, line) => {
+            write!(
+                told,
+                "refused: the script has a fault, {fault} line {line}\n"
+            )?
+        }
+        Unread::File => told.push_str("refused: the file can't be read\n")?,
+        Unread::Memory => told.push_str("refused: memory\n")?,
+    }
+    let look = desk.screen().look;
+    let prompt = prompt(desk.session(), look.is_prompting);
+    laid_out(alloc, told.as_bytes(), look.width, prompt)
 }

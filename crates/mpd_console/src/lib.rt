@@ -1,12 +1,16 @@
-//! The console (docs/CONSOLE.md): what its words ask of a session, what is told of the reply, and what they show.
+//! The console (docs/CONSOLE.md): what its words ask of a session, what they did, and what is said of
+//! that.
 #![tactic(auto)]
 
 pub mod again;
 mod blamed;
+pub mod carried;
 pub mod desk;
+pub mod done;
 mod found;
 mod held;
-mod looks;
+pub mod lead;
+pub mod looks;
 pub mod moves;
 pub mod news;
 mod onward;
@@ -14,18 +18,26 @@ pub mod opening;
 pub mod prompts;
 pub mod quit;
 pub mod run;
+mod saying;
 pub mod sourced;
-mod standing;
-mod values;
+pub mod told;
+pub mod values;
 
 pub use again::{Kept, Unread, keep, refused_again, reopen};
 pub use desk::{ConsoleDesk, Screen};
-pub use moves::{Doing, doing_of, goto_command, lead_of, push_break_line, push_reply};
-pub use news::{Known, Lead, known_for};
+pub use done::Done;
+pub use lead::{Lead, lead_of};
+pub use looks::sight_of;
+pub use moves::{Doing, doing_of, goto_command};
+pub use news::{Known, known_for};
 pub use onward::{finish_rank, rank_of};
 pub use opening::{OpenFault, Opened, open, open_along, open_with};
 pub use prompts::Look;
 pub use quit::{UntilWish, Wish};
 pub use run::run_console;
 pub use sourced::{Unsourced, WORDS_MAX, ended_words, source_refused, source_taken};
-pub use standing::Scene;
+pub use told::{
+    Blamed, Carried, First, Laid, Moved, News, Numbered, NumberedList, Printed, PrintedList, Sight,
+    Stopped, Told, Went, Why,
+};
+pub use values::{Expected, NoValue, RankValue, ValueList, Valued};

@@ -1,6 +1,6 @@
 //! What `until`, `finish` and `back rank` ask for: how far they go on, or back (docs/CONSOLE.md, "Words that move").
 
-ghost use Rattle.std.specs.Prelude.{◌≡◌, ◌≤◌, ◌<◌, IfOk, IfSome, drop, length, ◌++◌, OnOk, string_bytes};
+ghost use Rattle.std.specs.Prelude.{◌≡◌, ◌≤◌, ◌<◌, IfOk, IfSome, drop, length};
 ghost use Rattle.std.specs.List.{position};
 ghost use Rattle.mpd_console.specs.Onward as spec;
 ghost use Rattle.mpd_console.specs.Moves as moves;
@@ -227,21 +227,6 @@ pub(crate) fn until_rank_doing(
     }
     let max = steps_to(alloc, debugger, Breakpoint::Rank(rank))?;
     Ok(Doing::Asks(up_to(alloc, debugger, max)?))
-}
-
-/// Adds that a run stopped where a rank has gone on, without a line feed.
-fn push_gone_on_text(out: &mut String, rank: usize) -> Result<(), AllocError>
-    ensures { OnOk result (string_bytes out.new ≡ string_bytes out.old ++ moves.gone_on_text rank) }
-{
-    write!(out, "stopped: rank {rank} has gone on")
-}
-
-/// The same as a line.
-pub(crate) fn push_gone_on(out: &mut String, rank: usize) -> Result<(), AllocError>
-    ensures { OnOk result (string_bytes out.new ≡ string_bytes out.old ++ moves.gone_on_line rank) }
-{
-    push_gone_on_text(out, rank)?;
-    out.push('\n')
 }
 
 /// Whether a step is a local one of a rank.

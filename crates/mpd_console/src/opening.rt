@@ -1,6 +1,6 @@
 //! Opens a console: at the start of a script, or with steps ahead, of a witness or of any run.
 
-ghost use Rattle.std.specs.Prelude.{◌≡◌, ◌≤◌, ℕ, IfOk, IsErrOf, None, [], length};
+ghost use Rattle.std.specs.Prelude.{◌≡◌, ◌≤◌, ℕ, IfOk, IsErrOf, length};
 ghost use Rattle.mpd_model.specs.steps.World.{start};
 ghost use Rattle.mpd_model.specs.runs.Trail.{IsRun};
 ghost use Rattle.mpd_explore.specs.Witness.{IsEndWitness};
@@ -8,11 +8,13 @@ ghost use Rattle.mpd_session.specs.Held.{opened};
 ghost use Rattle.mpd_session.specs.Respond.{laid};
 ghost use Rattle.mpd_runs.specs.Given.{StopsAt};
 ghost use Rattle.mpd_runs.specs.Seek.{EndsAs, LeadsTo};
-ghost use Rattle.mpd_console.specs.Says.{prompt, laid_said, AlongSaid, WitnessSaid};
+ghost use Rattle.mpd_console.specs.Says as says;
+ghost use Rattle.mpd_console.specs.Says.{TellsRun, TellsWitness};
 
 use crate::desk::{ConsoleDesk, Screen};
-use crate::found::{RunAhead, laid_text};
-use crate::prompts::idle_bytes;
+use crate::prompts::{idle_bytes, prompt};
+use crate::saying::laid_bytes;
+use crate::told::{First, Laid};
 use mpd_code::Subject;
 use mpd_explore::{EndWitness, Ending, WitnessFault, verify_end};
 use mpd_model::{STEPS_MAX, Step, StepList};
@@ -36,6 +38,9 @@ pub enum OpenFault {
 #[derive(Drop)]
 pub struct Opened<'c, 't> {
     pub desk: ConsoleDesk<'c, 't>,
+    /// What it tells first.
+    pub first: First,
+    /// That in words.
     pub said: Vec<u8>,
 }
 
@@ -45,17 +50,20 @@ pub fn open<'c, 't>(
     subject: Subject<'c>,
     screen: Screen<'t>,
 ) -> Result<Opened<'c, 't>, OpenFault>
-    ensures desk { IfOk result (λ o. o.desk ≡ record { session = opened subject.entry.code.now.program subject.entry.mode; script = screen.entry.script.now; last = None; asked = []; named = []; look = screen.entry.look }) }
-    ensures said { IfOk result (λ o. o.said.items ≡ prompt screen.entry.look.is_prompting (opened subject.entry.code.now.program subject.entry.mode)) }
+    ensures desk { IfOk result (λ o. o.desk ≡ says.console_of (opened subject.entry.code.now.program subject.entry.mode) screen.entry.script.now screen.entry.look) }
+    ensures first { IfOk result (λ o. o.first ≡ First.Nothing) }
 {
     let Ok(session) = Session::start(alloc, subject.code, subject.mode) else {
         return Err(OpenFault::Memory);
     };
-    let Ok(said) = idle_bytes(alloc, &session, screen.look.is_prompting) else {
+    let Ok(said) = idle_bytes(alloc, prompt(&session, screen.look.is_prompting)) else {
         return Err(OpenFault::Memory);
     };
-    let desk = ConsoleDesk::new(alloc, session, screen);
-    Ok(Opened { desk, said })
+    Ok(Opened {
+        desk: ConsoleDesk::new(alloc, session, screen),
+        first: First::Nothing,
+        said,
+    })
 }
 
 /// Checks a witness for a script, of which no more steps are taken than a debugger has room for.
@@ -79,16 +87,17 @@ fn console_before<'c, 't>(
     alloc: Global,
     session: Session<'c>,
     screen: Screen<'t>,
-    run: RunAhead<'_>,
+    run: Laid,
 ) -> Result<Opened<'c, 't>, AllocError>
-    ensures desk { IfOk result (λ o. o.desk ≡ record { session = session.entry; script = screen.entry.script.now; last = None; asked = []; named = []; look = screen.entry.look }) }
-    ensures said { IfOk result (λ o. o.said.items ≡ laid_said screen.entry.look screen.entry.script.now session.entry run.entry.number run.entry.ending.now run.entry.steps) }
+    ensures desk { IfOk result (λ o. o.desk ≡ says.console_of session.entry screen.entry.script.now screen.entry.look) }
+    ensures first { IfOk result (λ o. o.first ≡ First.Ahead run) }
 {
-    match laid_text(alloc, &session, screen, run) {
-        Ok(said) => {
-            let desk = ConsoleDesk::new(alloc, session, screen);
-            Ok(Opened { desk, said })
-        }
+    match laid_bytes(alloc, &session, screen, &run) {
+        Ok(said) => Ok(Opened {
+            desk: ConsoleDesk::new(alloc, session, screen),
+            first: First::Ahead(run),
+            said,
+        }),
         Err(error) => {
             drop(session);
             Err(error)
@@ -103,19 +112,19 @@ fn console_along<'c, 't>(
     subject: Subject<'c>,
     screen: Screen<'t>,
     steps: StepList,
-    ending: &Ending,
+    ending: Ending,
 ) -> Result<Opened<'c, 't>, AllocError>
     requires { IsRun subject.code.now.program subject.mode steps }
-    ensures desk { IfOk result (λ o. o.desk ≡ record { session = laid (opened subject.entry.code.now.program subject.entry.mode) steps; script = screen.entry.script.now; last = None; asked = []; named = []; look = screen.entry.look }) }
-    ensures said { IfOk result (λ o. o.said.items ≡ laid_said screen.entry.look screen.entry.script.now (laid (opened subject.entry.code.now.program subject.entry.mode) steps) None ending.now (length steps)) }
+    ensures desk { IfOk result (λ o. o.desk ≡ says.console_of (laid (opened subject.entry.code.now.program subject.entry.mode) steps) screen.entry.script.now screen.entry.look) }
+    ensures first { IfOk result (λ o. o.first ≡ First.Ahead (says.run_ahead steps ending)) }
 {
     let mut session = Session::start(alloc, subject.code, subject.mode)?;
-    let count = steps.items.len();
+    let ahead = steps.items.len();
     session.lay(steps.items);
-    let run = RunAhead {
+    let run = Laid {
         number: None,
         ending,
-        steps: count,
+        ahead,
     };
     console_before(alloc, session, screen, run)
 }
@@ -165,9 +174,9 @@ fn ending_along(alloc: Global, subject: Subject<'_>, steps: &[Step]) -> Result<E
     ending
 }
 
-/// A console at the start of a script, with steps ahead, which are taken once to see that they can be. It says how the run ends that they
-/// make, and where it stands: at the start. `NotEnabled` tells the first step that isn't enabled where it stands, `Full` that there are
-/// more than 1,000,000.
+/// A console at the start of a script, with steps ahead, which are taken once to see that they can
+/// be. It says how the run ends that they make, and where it stands: at the start. `NotEnabled` tells
+/// the first step that isn't enabled where it stands, `Full` that there are more than 1,000,000.
 #[tactic(auto, using(crate::proofs::OpeningLemmas::opening))]
 pub fn open_along<'c, 't>(
     alloc: Global,
@@ -176,19 +185,20 @@ pub fn open_along<'c, 't>(
     steps: StepList,
 ) -> Result<Opened<'c, 't>, StepsFault>
     ensures run { IfOk result (λ _. IsRun subject.entry.code.now.program subject.entry.mode steps) }
-    ensures desk { IfOk result (λ o. o.desk ≡ record { session = laid (opened subject.entry.code.now.program subject.entry.mode) steps; script = screen.entry.script.now; last = None; asked = []; named = []; look = screen.entry.look }) }
-    ensures said { IfOk result (λ o. AlongSaid subject.entry.code.now.program subject.entry.mode screen.entry.look screen.entry.script.now steps o.said.items) }
+    ensures desk { IfOk result (λ o. o.desk ≡ says.console_of (laid (opened subject.entry.code.now.program subject.entry.mode) steps) screen.entry.script.now screen.entry.look) }
+    ensures first { IfOk result (λ o. TellsRun subject.entry.code.now.program subject.entry.mode steps o.first) }
     ensures not_enabled { (place : ℕ) → IsErrOf result (StepsFault.NotEnabled place) → StopsAt (start subject.entry.code.now.program subject.entry.mode) steps place }
 {
     let ending = ending_along(alloc, subject, &steps.items)?;
-    match console_along(alloc, subject, screen, steps, &ending) {
+    match console_along(alloc, subject, screen, steps, ending) {
         Ok(opened) => Ok(opened),
         Err(_) => Err(StepsFault::Memory),
     }
 }
 
-/// A console at the start of a script, with the steps of a witness ahead, which it is checked for first (docs/DEFINITIONS.md,
-/// "Witnesses"). It says how the run ends that they make, which is what the witness leads to, and where it stands.
+/// A console at the start of a script, with the steps of a witness ahead, which it is checked for
+/// first (docs/DEFINITIONS.md, "Witnesses"). It says how the run ends that they make, which is what
+/// the witness leads to, and where it stands.
 #[tactic(auto, using(crate::proofs::OpeningLemmas::witnessing))]
 pub fn open_with<'c, 't>(
     alloc: Global,
@@ -197,8 +207,8 @@ pub fn open_with<'c, 't>(
     witness: EndWitness,
 ) -> Result<Opened<'c, 't>, OpenFault>
     ensures is { IfOk result (λ _. IsEndWitness subject.entry.code.now.program subject.entry.mode witness) }
-    ensures desk { IfOk result (λ o. o.desk ≡ record { session = laid (opened subject.entry.code.now.program subject.entry.mode) witness.steps; script = screen.entry.script.now; last = None; asked = []; named = []; look = screen.entry.look }) }
-    ensures said { IfOk result (λ o. WitnessSaid subject.entry.code.now.program subject.entry.mode screen.entry.look screen.entry.script.now witness o.said.items) }
+    ensures desk { IfOk result (λ o. o.desk ≡ says.console_of (laid (opened subject.entry.code.now.program subject.entry.mode) witness.steps) screen.entry.script.now screen.entry.look) }
+    ensures first { IfOk result (λ o. TellsWitness subject.entry.code.now.program subject.entry.mode witness o.first) }
 {
     check_witness(alloc, subject, &witness)?;
     let EndWitness { steps, end } = witness;

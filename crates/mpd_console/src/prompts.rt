@@ -1,13 +1,13 @@
-//! How the answers of the console look: the prompt of the console, and what stands before it.
+//! How the answers of the console look: where their lines wrap, and the prompt after them.
 
-ghost use Rattle.std.specs.Prelude.{◌≡◌, ◌++◌, IfOk, OnOk, string_bytes};
-ghost use Rattle.mpd_marks.specs.Marked.{marked};
-ghost use Rattle.mpd_console.specs.Says as spec;
+ghost use Rattle.std.specs.Prelude.{◌≡◌};
+ghost use Rattle.mpd_console.specs.Says.{prompted};
 
 use mpd_lines::push_folded_at;
 use mpd_marks::push_marked;
 use mpd_session::Session;
 use std::alloc::{AllocError, Global};
+use std::fmt;
 
 /// How the answers of a console look.
 #[derive(Clone, Copy)]
@@ -20,113 +20,69 @@ pub struct Look {
     pub width: usize,
 }
 
-/// Adds the prompt, where one is wanted: how many steps are not undone.
-fn push_prompt(
-    session: &Session<'_>,
-    out: &mut String,
-    is_prompting: bool,
-) -> Result<(), AllocError>
-    ensures { OnOk result (string_bytes out.new ≡ string_bytes out.old ++ spec.prompt is_prompting session.now) }
+/// The prompt of a console.
+#[derive(Clone, Copy)]
+pub(crate) struct Prompt {
+    /// How many steps are not undone; none if no prompt is wanted.
+    pub(crate) depth: Option<usize>,
+}
+
+impl fmt::Display for Prompt {
+    fn fmt<W: fmt::Write>(&self, f: &mut fmt::Formatter<W>) -> fmt::Result {
+        match self.depth {
+            None => Ok(()),
+            Some(depth) => write!(f, "({depth}) "),
+        }
+    }
+}
+
+/// The prompt of a session, if one is wanted.
+pub(crate) fn prompt(session: &Session<'_>, is_prompting: bool) -> Prompt
+    ensures { result.depth ≡ prompted is_prompting session.now }
 {
     if !is_prompting {
-        return Ok(());
+        return Prompt { depth: None };
     }
-    let depth = session.debugger().depth();
-    write!(out, "({depth}) ")
+    Prompt {
+        depth: Some(session.debugger().depth()),
+    }
 }
 
-/// The prompt, where one is wanted, which is what is told where nothing is done.
-pub(crate) fn idle_text(
+/// A text with the places of marks of the script beside lines (docs/FROM_A_RUN.md, "Marks"). `Err`
+/// means that memory was refused.
+pub(crate) fn marked_bytes(
     alloc: Global,
-    session: &Session<'_>,
-    is_prompting: bool,
-) -> Result<String, AllocError>
-    ensures { IfOk result (λ t. string_bytes t ≡ spec.prompt is_prompting session.now) }
-{
-    let mut out = String::new(alloc);
-    push_prompt(session, &mut out, is_prompting)?;
-    Ok(out)
-}
-
-/// Adds the prompt to the bytes of an answer.
-#[tactic(auto, using(crate::proofs::SaidLemmas::saying))]
-pub(crate) fn push_idle(
-    alloc: Global,
-    session: &Session<'_>,
-    is_prompting: bool,
-    out: &mut Vec<u8>,
-) -> Result<(), AllocError>
-    ensures { OnOk result (out.new.items ≡ out.old.items ++ spec.prompt is_prompting session.now) }
-{
-    let prompt = idle_text(alloc, session, is_prompting)?;
-    out.extend_from_slice(prompt.as_bytes())
-}
-
-/// The prompt, where one is wanted, as bytes.
-#[tactic(auto, using(crate::proofs::SaidLemmas::saying))]
-pub(crate) fn idle_bytes(
-    alloc: Global,
-    session: &Session<'_>,
-    is_prompting: bool,
-) -> Result<Vec<u8>, AllocError>
-    ensures { IfOk result (λ t. t.items ≡ spec.prompt is_prompting session.now) }
-{
-    let mut out = Vec::new(alloc);
-    push_idle(alloc, session, is_prompting, &mut out)?;
-    Ok(out)
-}
-
-/// The bytes of an answer, whose long lines go on in further lines, with the prompt after it.
-#[tactic(auto, using(crate::proofs::SaidLemmas::wrapping))]
-pub(crate) fn said_bytes(
-    alloc: Global,
-    session: &Session<'_>,
-    look: Look,
-    told: &[u8],
-) -> Result<Vec<u8>, AllocError>
-    ensures { IfOk result (λ t. t.items ≡ spec.said look session.now told.now) }
-{
-    let mut out = Vec::new(alloc);
-    push_folded_at(&mut out, told, look.width)?;
-    push_idle(alloc, session, look.is_prompting, &mut out)?;
-    Ok(out)
-}
-
-/// An answer whose long lines go on in further lines, with the prompt after it.
-#[tactic(auto, using(crate::proofs::SaidLemmas::wrapping))]
-pub(crate) fn said(
-    alloc: Global,
-    session: &Session<'_>,
-    look: Look,
+    script: &[u8],
     told: &str,
-) -> Result<Vec<u8>, AllocError>
-    ensures { IfOk result (λ t. t.items ≡ spec.said look session.now told.now) }
-{
-    said_bytes(alloc, session, look, told.as_bytes())
-}
-
-/// A told text with the places of marks of the script beside lines (docs/FROM_A_RUN.md, "Marks"). `Err` means that memory was refused.
-#[tactic(auto, using(crate::proofs::SaidLemmas::marking))]
-pub(crate) fn marked_bytes(alloc: Global, script: &[u8], told: &str) -> Result<Vec<u8>, AllocError>
-    ensures { IfOk result (λ t. t.items ≡ marked script.now told.now) }
-{
+) -> Result<Vec<u8>, AllocError> {
     let mut out = Vec::new(alloc);
     push_marked(&mut out, script, told.as_bytes())?;
     Ok(out)
 }
 
-/// An answer with the places of marks of the script beside lines, whose long lines go on in further lines, with the prompt after it.
-/// `Err` means that memory was refused.
-#[tactic(auto, using(crate::proofs::SaidLemmas::wrapping))]
-pub(crate) fn said_marked(
+/// Adds the prompt to the bytes of an answer.
+pub(crate) fn push_prompt(out: &mut Vec<u8>, prompt: Prompt) -> Result<(), AllocError> {
+    let mut text = String::new(*out.allocator());
+    write!(text, "{prompt}")?;
+    out.extend_from_slice(text.as_bytes())
+}
+
+/// The bytes of an answer, whose long lines go on in further lines, with the prompt after it.
+pub(crate) fn laid_out(
     alloc: Global,
-    session: &Session<'_>,
-    look: Look,
-    script: &[u8],
-    told: &str,
-) -> Result<Vec<u8>, AllocError>
-    ensures { IfOk result (λ t. t.items ≡ spec.said_marked look script.now session.now told.now) }
-{
-    let text = marked_bytes(alloc, script, told)?;
-    said_bytes(alloc, session, look, &text)
+    told: &[u8],
+    width: usize,
+    prompt: Prompt,
+) -> Result<Vec<u8>, AllocError> {
+    let mut out = Vec::new(alloc);
+    push_folded_at(&mut out, told, width)?;
+    push_prompt(&mut out, prompt)?;
+    Ok(out)
+}
+
+/// The prompt alone, which is what is told if nothing is done.
+pub(crate) fn idle_bytes(alloc: Global, prompt: Prompt) -> Result<Vec<u8>, AllocError> {
+    let mut out = Vec::new(alloc);
+    push_prompt(&mut out, prompt)?;
+    Ok(out)
 }

@@ -1,12 +1,10 @@
 //! The words of a file, which are answered as if they were typed (docs/CONSOLE.md, "The words of a file").
 
-ghost use Rattle.std.specs.Prelude.{◌≡◌, ◌++◌, IfOk, OnOk, string_bytes};
+ghost use Rattle.std.specs.Prelude.{◌≡◌, IfOk};
 ghost use Rattle.mpd_console.specs.Quitting.{ended};
-ghost use Rattle.mpd_console.specs.Says.{memory_line, prompt, said as said_of};
-ghost use Rattle.mpd_console.specs.Sourced as spec;
 
 use crate::desk::ConsoleDesk;
-use crate::prompts::{idle_bytes, said};
+use crate::prompts::{idle_bytes, laid_out, prompt};
 use mpd_vocabulary::push_quoted;
 use std::alloc::{AllocError, Global};
 
@@ -37,60 +35,37 @@ pub fn ended_words(file: Vec<u8>) -> Result<Vec<u8>, AllocError>
     Ok(words)
 }
 
-/// What a console says before the words of a file are answered: a prompt, if prompts are wanted. An `Err` is want of memory.
-pub fn source_taken(alloc: Global, desk: &ConsoleDesk<'_, '_>) -> Result<Vec<u8>, AllocError>
-    ensures { IfOk result (λ t. t.items ≡ prompt desk.now.look.is_prompting desk.now.session) }
-{
-    idle_bytes(alloc, desk.session(), desk.screen().look.is_prompting)
+/// What a console says before the words of a file are answered: a prompt, if prompts are wanted. An
+/// `Err` is want of memory.
+pub fn source_taken(alloc: Global, desk: &ConsoleDesk<'_, '_>) -> Result<Vec<u8>, AllocError> {
+    let prompt = prompt(desk.session(), desk.screen().look.is_prompting);
+    idle_bytes(alloc, prompt)
 }
 
-/// Adds what is wrong with a file.
-fn push_file_line(out: &mut String, name: &[u8], wrong: &str) -> Result<(), AllocError>
-    ensures { OnOk result (string_bytes out.new ≡ string_bytes out.old ++ spec.file_line name.now wrong.now) }
-{
-    push_quoted(out, "refused: the file '", name)?;
-    out.push_str(wrong)?;
-    out.push_str("\n")
-}
-
-/// Adds that a file of words has no `source`.
-fn push_nested(out: &mut String) -> Result<(), AllocError>
-    ensures { OnOk result (string_bytes out.new ≡ string_bytes out.old ++ spec.nested_line) }
-{
-    out.push_str("refused: source can't stand in a file of words\n")
-}
-
-/// Adds that memory is refused.
-fn push_memory(out: &mut String) -> Result<(), AllocError>
-    ensures { OnOk result (string_bytes out.new ≡ string_bytes out.old ++ memory_line) }
-{
-    out.push_str("refused: memory\n")
-}
-
-/// Adds why the words of a file aren't answered.
-fn push_unsourced(out: &mut String, name: &[u8], why: Unsourced) -> Result<(), AllocError>
-    ensures { OnOk result (string_bytes out.new ≡ string_bytes out.old ++ spec.unsourced_line name.now why) }
-{
-    match why {
-        Unsourced::Nested => push_nested(out),
-        Unsourced::File => push_file_line(out, name, "' can't be read"),
-        Unsourced::TooLong => push_file_line(out, name, "' has more than 1048576 bytes"),
-        Unsourced::Memory => push_memory(out),
-    }
-}
-
-/// What a console says if the words of a file aren't answered: one line, with the name of the file if something is wrong with that. Nothing
-/// has changed. An `Err` is want of memory.
-#[tactic(auto, using(crate::proofs::SaidLemmas::saying))]
+/// What a console says if the words of a file aren't answered: one line, with the name of the file if
+/// something is wrong with that. Nothing has changed. An `Err` is want of memory.
 pub fn source_refused(
     alloc: Global,
     desk: &ConsoleDesk<'_, '_>,
     name: &[u8],
     why: Unsourced,
-) -> Result<Vec<u8>, AllocError>
-    ensures { IfOk result (λ t. t.items ≡ said_of desk.now.look desk.now.session (spec.unsourced_line name.now why)) }
-{
+) -> Result<Vec<u8>, AllocError> {
     let mut told = String::new(alloc);
-    push_unsourced(&mut told, name, why)?;
-    said(alloc, desk.session(), desk.screen().look, &told)
+    match why {
+        Unsourced::Nested => {
+            told.push_str("refused: source can't stand in a file of words\n")?;
+        }
+        Unsourced::File => {
+            push_quoted(&mut told, "refused: the file '", name)?;
+            told.push_str("' can't be read\n")?;
+        }
+        Unsourced::TooLong => {
+            push_quoted(&mut told, "refused: the file '", name)?;
+            told.push_str("' has more than 1048576 bytes\n")?;
+        }
+        Unsourced::Memory => told.push_str("refused: memory\n")?,
+    }
+    let look = desk.screen().look;
+    let prompt = prompt(desk.session(), look.is_prompting);
+    laid_out(alloc, told.as_bytes(), look.width, prompt)
 }

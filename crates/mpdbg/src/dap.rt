@@ -44,7 +44,7 @@ pub(crate) fn adapt_script<'a, R: Eprint + AllocGlobal, S: Source, W: Sink>(
         script: text,
         look: FRAMED,
     };
-    let Opened { desk, said } = console_of(rt.alloc(), subject, screen, ahead)?;
+    let Opened { desk, said, .. } = console_of(rt.alloc(), subject, screen, ahead)?;
     drop(said);
     if terminals.is_terminal {
         let _unwritten = eprintln!(rt; "messages of an editor, in frames; docs/ADAPTER.md");

@@ -355,7 +355,7 @@ fn talk<'a, R: Files + Eprint + AllocGlobal, S: Source, W: Sink>(
         drop(opened);
         return turn;
     };
-    let Opened { desk, said } = opened;
+    let Opened { desk, said, .. } = opened;
     let size = Size {
         rows,
         columns: place.look.width,

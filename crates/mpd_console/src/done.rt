@@ -1,0 +1,187 @@
+//! What a word does with a session: what it did, and the session after it (docs/CONSOLE.md).
+
+ghost use Rattle.std.specs.Prelude.{◌≡◌, Some, IfOk, IfSome, OnOk, OnErr};
+ghost use Rattle.mpd_runs.specs.LastChoice.{last_choice as last_choice_of};
+ghost use Rattle.mpd_session.specs.Respond.{respond};
+ghost use Rattle.mpd_console.specs.Says as spec;
+ghost use Rattle.mpd_console.specs.Says.{BlamedBy, CarriedBy, Does, UndoneBy, asking, carried_of};
+
+use crate::blamed::{Decider, decider_in};
+use crate::carried::carried_by;
+use crate::found::{follow, last_choice_in, seek};
+use crate::lead::{Lead, lead_of};
+use crate::looks::sight_of;
+use crate::moves::{Doing, doing_of, goto_command};
+use crate::saying::step_words;
+use crate::told::{Blamed, Carried, Sight, Told};
+use mpd_blame::Blame;
+use mpd_session::{Command, Request, Session};
+use mpd_vocabulary::Word;
+use std::alloc::{AllocError, Global};
+
+/// A word that is done.
+#[derive(Drop)]
+pub struct Done {
+    /// What it did; none if memory for that was refused.
+    pub told: Option<Told>,
+    /// What was said of the state before it: of the step that it took, or of the one that decided.
+    pub(crate) words: String,
+}
+
+/// A request that is done.
+#[derive(Drop)]
+struct Reached {
+    /// What it came to; none if memory for that was refused.
+    carried: Option<Carried>,
+    /// The step that it took, in words; empty if it took none that is known.
+    words: String,
+}
+
+/// What is known of a word before it is done.
+#[tactic(auto, using(crate::proofs::DoneLemmas::leading))]
+fn lead_in(alloc: Global, session: &Session<'_>, word: Word) -> Result<Lead, AllocError>
+    ensures { IfOk result (λ lead. lead ≡ spec.lead_in session.now word) }
+{
+    let debugger = session.debugger();
+    debugger.state_is_reached();
+    lead_of(alloc, debugger, word)
+}
+
+/// Asks the session, and tells what that came to. An `Err` is want of memory, and then nothing has
+/// changed.
+#[tactic(auto, using(crate::proofs::DoneLemmas::reaching))]
+fn carry_out(
+    alloc: Global,
+    session: &mut Session<'_>,
+    word: Word,
+    command: Command,
+) -> Result<Reached, AllocError>
+    ensures carried { IfOk result (λ r. IfSome r.carried (λ k. k ≡ carried_of session.old word command session.new)) }
+    ensures held { OnOk result (session.new ≡ (respond session.old (asking command)).1) }
+    ensures err { OnErr result (session.new ≡ session.old) }
+{
+    let lead = lead_in(alloc, session, word)?;
+    let words = step_words(alloc, session, lead.step)?;
+    let request = Request { command, at: None };
+    let reply = session.answer(alloc, &request)?;
+    let carried = carried_by(alloc, session, lead, &reply).ok();
+    Ok(Reached { carried, words })
+}
+
+/// The same as a word.
+#[tactic(auto, using(crate::proofs::DoneLemmas::asked))]
+fn ask(
+    alloc: Global,
+    session: &mut Session<'_>,
+    word: Word,
+    command: Command,
+) -> Result<Done, AllocError>
+    ensures done { IfOk result (λ d. CarriedBy session.old word command d.told session.new) }
+    ensures err { OnErr result (session.new ≡ session.old) }
+{
+    let Reached { carried, words } = carry_out(alloc, session, word, command)?;
+    let told = match carried {
+        None => None,
+        Some(carried) => Some(Told::Carried(carried)),
+    };
+    Ok(Done { told, words })
+}
+
+/// A word of which this is told, and nothing was said of the state before it.
+fn plain(alloc: Global, told: Told) -> Done
+    ensures { result.told ≡ Some told }
+{
+    Done {
+        told: Some(told),
+        words: String::new(alloc),
+    }
+}
+
+/// Goes back to the last choice. An `Err` is want of memory, and then nothing has changed.
+#[tactic(auto, using(crate::proofs::DoneLemmas::undone))]
+fn undo_choice(alloc: Global, session: &mut Session<'_>, word: Word) -> Result<Done, AllocError>
+    ensures undone { IfOk result (λ d. UndoneBy session.old word (last_choice_of session.old.trail) d.told session.new) }
+    ensures err { OnErr result (session.new ≡ session.old) }
+{
+    match last_choice_in(alloc, session)? {
+        Some(depth) => ask(alloc, session, word, Command::Goto(depth)),
+        None => Ok(plain(alloc, Told::NoChoice)),
+    }
+}
+
+/// Goes to where it was decided how the run ends that is kept. An `Err` is want of memory, and then
+/// nothing has changed.
+#[tactic(auto, using(crate::proofs::BlamedLemmas::blaming))]
+fn blame(alloc: Global, session: &mut Session<'_>) -> Result<Done, AllocError>
+    ensures blamed { IfOk result (λ d. BlamedBy session.old d.told session.new) }
+    ensures err { OnErr result (session.new ≡ session.old) }
+{
+    let Decider {
+        blame,
+        number,
+        words,
+    } = decider_in(alloc, session)?;
+    let Blame::At(decided) = blame else {
+        let told = Told::Blamed(Blamed {
+            blame,
+            number,
+            gone: None,
+        });
+        return Ok(Done {
+            told: Some(told),
+            words,
+        });
+    };
+    let depth = decided.depth;
+    let command = goto_command(session.debugger(), depth);
+    let Reached { carried, .. } = carry_out(alloc, session, Word::Goto(depth), command)?;
+    let told = match carried {
+        None => None,
+        Some(carried) => Some(Told::Blamed(Blamed {
+            blame,
+            number,
+            gone: Some(carried),
+        })),
+    };
+    Ok(Done { told, words })
+}
+
+/// What a word looks at.
+#[tactic(auto, using(crate::proofs::DoneLemmas::looking))]
+fn sight_in(session: &Session<'_>, word: Word) -> Sight
+    ensures { result ≡ spec.sight_in session.now word }
+{
+    let debugger = session.debugger();
+    debugger.state_is_reached();
+    sight_of(debugger, word)
+}
+
+/// What a word does with a session.
+#[tactic(auto, using(crate::proofs::DoneLemmas::doing))]
+fn doing_in(alloc: Global, session: &Session<'_>, word: Word) -> Result<Doing, AllocError>
+    ensures { IfOk result (λ doing. doing ≡ spec.doing_in session.now word) }
+{
+    let debugger = session.debugger();
+    debugger.state_is_reached();
+    doing_of(alloc, debugger, word)
+}
+
+/// Does a word, and tells what it did. An `Err` is want of memory, and then nothing has changed.
+#[tactic(auto, using(crate::proofs::DoneLemmas::performing))]
+pub(crate) fn perform(
+    alloc: Global,
+    session: &mut Session<'_>,
+    word: Word,
+) -> Result<Done, AllocError>
+    ensures done { IfOk result (λ d. Does session.old word d.told session.new) }
+    ensures err { OnErr result (session.new ≡ session.old) }
+{
+    match doing_in(alloc, session, word)? {
+        Doing::Asks(command) => ask(alloc, session, word, command),
+        Doing::Undoes => undo_choice(alloc, session, word),
+        Doing::Seeks(way) => Ok(plain(alloc, seek(alloc, session, way)?)),
+        Doing::Follows(number) => Ok(plain(alloc, follow(alloc, session, number)?)),
+        Doing::Blames => blame(alloc, session),
+        Doing::Looks => Ok(plain(alloc, Told::Looks(sight_in(session, word)))),
+    }
+}

@@ -1,0 +1,356 @@
+//! What is said of what a word did: words for people, over the values that tell it
+//! (docs/CONSOLE.md, "Answers").
+
+use crate::desk::Screen;
+use crate::looks::push_sight;
+use crate::prompts::{laid_out, marked_bytes, prompt, push_prompt};
+use crate::told::{Carried, Laid, Moved, News, Numbered, Printed, Sight, Stopped, Told, Went, Why};
+use mpd_blame::{Blame, push_blame};
+use mpd_core::Core;
+use mpd_explain::{push_lost_told, push_standing, push_step};
+use mpd_lines::push_folded_at;
+use mpd_model::{Breakpoint, Decision, Decl, Step};
+use mpd_names::push_break;
+use mpd_policy::decide;
+use mpd_runs::{push_ahead, push_count, push_no_choice, push_no_run, push_none};
+use mpd_session::Session;
+use std::alloc::{AllocError, Global};
+use std::fmt;
+
+// ---- on the state before a word
+
+/// A step in words, on the state before it; nothing of none.
+pub(crate) fn step_words(
+    alloc: Global,
+    session: &Session<'_>,
+    step: Option<Step>,
+) -> Result<String, AllocError> {
+    let mut out = String::new(alloc);
+    if let Some(step) = step {
+        push_step(session.debugger().core(), &mut out, step)?;
+    }
+    Ok(out)
+}
+
+/// Where it was decided how a run ends, in the state before the step that decided, and the word that
+/// takes the other step there.
+pub(crate) fn blame_words(
+    alloc: Global,
+    core: &Core<'_>,
+    blame: Blame,
+    number: Option<usize>,
+) -> Result<String, AllocError> {
+    let mut out = String::new(alloc);
+    push_blame(core, &mut out, blame)?;
+    out.push('\n')?;
+    if let Blame::At(decided) = blame {
+        let step = decided.other;
+        match number {
+            Some(number) => write!(out, "to try that: next {number}\n")?,
+            None => write!(out, "to try that: {step}\n")?,
+        }
+    }
+    Ok(out)
+}
+
+// ---- breakpoints
+
+/// Adds the line of a breakpoint.
+pub(crate) fn push_break_line(
+    out: &mut String,
+    decls: &[Decl],
+    set: Numbered,
+) -> Result<(), AllocError> {
+    let number = set.number;
+    write!(out, "breakpoint {number}: ")?;
+    push_break(out, decls, set.stop)?;
+    out.push('\n')
+}
+
+/// Adds that no statement begins at the line of a breakpoint.
+fn push_idle(out: &mut String, stop: Breakpoint) -> Result<(), AllocError> {
+    match stop {
+        Breakpoint::Line { line, .. } | Breakpoint::Match { line, .. } => {
+            write!(out, "no statement begins at line {line}\n")
+        }
+        Breakpoint::Rank(_) | Breakpoint::Change { .. } | Breakpoint::Handle { .. } => Ok(()),
+    }
+}
+
+// ---- moves
+
+/// Adds how a word has moved, given the step in words if it took one that is known.
+fn push_went(out: &mut String, went: Went, words: &str, depth: usize) -> Result<(), AllocError> {
+    match went {
+        Went::One(_) => write!(out, "{depth} {words}\n"),
+        Went::There => write!(out, "depth {depth}\n"),
+        Went::On(count) => {
+            push_count(out, count)?;
+            write!(out, ", depth {depth}\n")
+        }
+        Went::Back(count) => {
+            push_count(out, count)?;
+            write!(out, " back, depth {depth}\n")
+        }
+    }
+}
+
+/// Adds that steps ahead are gone, if any are.
+fn push_gone(out: &mut String, count: usize) -> Result<(), AllocError> {
+    match count {
+        0 => Ok(()),
+        1 => out.push_str("the step that lay ahead is gone\n"),
+        _ => write!(out, "the {count} steps that lay ahead are gone\n"),
+    }
+}
+
+/// Adds what ranks have printed, a line for each.
+fn push_printed(out: &mut String, list: &[Printed]) -> Result<(), AllocError> {
+    let mut last = None;
+    for Printed { rank, value } in list {
+        if last != Some(*rank) {
+            if last.is_some() {
+                out.push('\n')?;
+            }
+            write!(out, "rank {rank} prints")?;
+            last = Some(*rank);
+        }
+        write!(out, " {value}")?;
+    }
+    if last.is_some() {
+        out.push('\n')?;
+    }
+    Ok(())
+}
+
+/// Adds what the steps of a word brought. An end tells by itself which requests are lost.
+fn push_news(
+    core: &Core<'_>,
+    out: &mut String,
+    news: &News,
+    decided: &Decision,
+) -> Result<(), AllocError> {
+    push_gone(out, news.gone)?;
+    push_printed(out, &news.printed.items)?;
+    match decided {
+        Decision::Leaf(_) => Ok(()),
+        Decision::Forced(_) | Decision::Choice(_) => {
+            push_lost_told(core, out, &news.lost_before.items, &news.lost.items)
+        }
+    }
+}
+
+/// Adds why a move went no further, if that isn't told by where it stands.
+fn push_stopped(out: &mut String, decls: &[Decl], stopped: Stopped) -> Result<(), AllocError> {
+    match stopped {
+        Stopped::There => Ok(()),
+        Stopped::At(set) => push_break_line(out, decls, set),
+        Stopped::Before(set) => {
+            out.push_str("before ")?;
+            push_break_line(out, decls, set)
+        }
+        Stopped::AfterChoice => out.push_str("stopped: after the choice\n"),
+        Stopped::AsAsked => out.push_str("stopped: as many steps as were asked for\n"),
+        Stopped::AtLine(line) => write!(out, "stopped: a rank is at line {line}\n"),
+        Stopped::GoneOn(rank) => write!(out, "stopped: rank {rank} has gone on\n"),
+        Stopped::CallOver => out.push_str("stopped: that call is over\n"),
+        Stopped::Full => out.push_str("stopped: no more than 1000000 steps are kept\n"),
+        Stopped::AtStart => out.push_str("at the start\n"),
+    }
+}
+
+/// Adds where a session stands, given the text of its script.
+pub(crate) fn push_where(
+    alloc: Global,
+    session: &Session<'_>,
+    script: &[u8],
+    out: &mut String,
+) -> Result<(), AllocError> {
+    let debugger = session.debugger();
+    let decided = decide(alloc, debugger.core())?;
+    push_standing(alloc, debugger, script, out, decided)
+}
+
+/// Adds what is said of a move, given the step in words if it took one that is known.
+fn push_moved(
+    alloc: Global,
+    session: &Session<'_>,
+    script: &[u8],
+    out: &mut String,
+    moved: &Moved,
+    words: &str,
+) -> Result<(), AllocError> {
+    let debugger = session.debugger();
+    let core = debugger.core();
+    push_went(out, moved.went, words, moved.depth)?;
+    let decided = decide(alloc, core)?;
+    if let Some(news) = &moved.news {
+        push_news(core, out, news, &decided)?;
+    }
+    push_stopped(out, core.code().decls(), moved.stopped)?;
+    push_standing(alloc, debugger, script, out, decided)
+}
+
+// ---- refusals
+
+impl fmt::Display for Why {
+    fn fmt<W: fmt::Write>(&self, f: &mut fmt::Formatter<W>) -> fmt::Result {
+        match *self {
+            Why::Standing => Ok(()),
+            Why::NotEnabled => write!(f, "refused: this step is not enabled\n"),
+            Why::Full => write!(f, "refused: no more than 1000000 steps are kept\n"),
+            Why::FewTaken => write!(f, "refused: fewer steps are taken\n"),
+            Why::NotKept => write!(f, "refused: so many steps are neither taken nor ahead\n"),
+            Why::NoneAhead => write!(f, "refused: no step is ahead\n"),
+            Why::NoBreak => write!(f, "refused: no breakpoint has this number\n"),
+            Why::BreaksFull => write!(f, "refused: 64 breakpoints are set\n"),
+            Why::NoCandidate => write!(f, "refused: there is no such candidate\n"),
+            Why::NoLine => write!(f, "refused: lines are 1 to 65537\n"),
+            Why::NoRank => write!(f, "refused: there is no such rank\n"),
+            Why::NoCount => write!(f, "refused: 1 to 1000000 steps can be asked for\n"),
+        }
+    }
+}
+
+/// Whether where it stands is told after this, if the step that comes next was asked for.
+fn stands_behind(why: Why) -> bool {
+    !matches!(why, Why::Full)
+}
+
+// ---- any word
+
+/// Adds what is said of what a request came to, given the step in words if it took one that is
+/// known.
+fn push_carried(
+    alloc: Global,
+    session: &Session<'_>,
+    script: &[u8],
+    out: &mut String,
+    carried: &Carried,
+    words: &str,
+) -> Result<(), AllocError> {
+    match carried {
+        Carried::Moved(moved) => push_moved(alloc, session, script, out, moved, words),
+        Carried::Added { added, is_idle } => {
+            push_break_line(out, session.code().decls(), *added)?;
+            if *is_idle {
+                push_idle(out, added.stop)?;
+            }
+            Ok(())
+        }
+        Carried::Removed(number) => write!(out, "deleted {number}\n"),
+        Carried::Refused { why, is_next } => {
+            write!(out, "{why}")?;
+            if *is_next && stands_behind(*why) {
+                push_where(alloc, session, script, out)?;
+            }
+            Ok(())
+        }
+        Carried::Nothing => Ok(()),
+    }
+}
+
+/// Adds what is said of a run that lies ahead, and where the session stands.
+pub(crate) fn push_laid(
+    alloc: Global,
+    session: &Session<'_>,
+    script: &[u8],
+    out: &mut String,
+    laid: &Laid,
+) -> Result<(), AllocError> {
+    let lines = session.code().lines();
+    push_ahead(out, lines, laid.number, &laid.ending, laid.ahead)?;
+    push_where(alloc, session, script, out)
+}
+
+/// Adds what is said of a word.
+fn push_told(
+    alloc: Global,
+    session: &Session<'_>,
+    script: &[u8],
+    out: &mut String,
+    told: &Told,
+    words: &str,
+) -> Result<(), AllocError> {
+    match told {
+        Told::Carried(carried) => push_carried(alloc, session, script, out, carried, words),
+        Told::Laid(laid) => push_laid(alloc, session, script, out, laid),
+        Told::NoneEnds { way, counts, .. } => push_none(out, *way, *counts),
+        Told::NoRun => push_no_run(out),
+        Told::NoChoice => push_no_choice(out),
+        Told::Blamed(blamed) => {
+            out.push_str(words)?;
+            match &blamed.gone {
+                Some(carried) => push_carried(alloc, session, script, out, carried, ""),
+                None => Ok(()),
+            }
+        }
+        Told::Looks(sight) => push_sight(alloc, session, script, out, *sight),
+    }
+}
+
+/// How the lines of an answer are laid out.
+enum Layout {
+    /// As they are.
+    Bare,
+    /// Long ones go on in further lines.
+    Folded,
+    /// The same, and the places of marks stand beside lines of the script.
+    Marked,
+}
+
+/// How the lines are laid out that are said of a word.
+fn layout(told: &Told) -> Layout {
+    match told {
+        Told::Looks(Sight::Script(_) | Sight::Whole | Sight::Words | Sight::Picture) => {
+            Layout::Bare
+        }
+        Told::NoneEnds { .. } | Told::NoRun | Told::NoChoice => Layout::Folded,
+        Told::Looks(_) | Told::Carried(_) | Told::Laid(_) | Told::Blamed(_) => Layout::Marked,
+    }
+}
+
+/// What a console says of what a word did, given what was said of the state before it, with the
+/// prompt after it. `Err` means that memory was refused.
+pub(crate) fn told_bytes(
+    alloc: Global,
+    session: &Session<'_>,
+    screen: Screen<'_>,
+    told: &Told,
+    words: &str,
+) -> Result<Vec<u8>, AllocError> {
+    let Screen { script, look } = screen;
+    let mut text = String::new(alloc);
+    push_told(alloc, session, script, &mut text, told, words)?;
+    let mut out = Vec::new(alloc);
+    match layout(told) {
+        Layout::Bare => out.extend_from_slice(text.as_bytes())?,
+        Layout::Folded => push_folded_at(&mut out, text.as_bytes(), look.width)?,
+        Layout::Marked => {
+            let marked = marked_bytes(alloc, script, &text)?;
+            push_folded_at(&mut out, &marked, look.width)?;
+        }
+    }
+    let is_prompting = look.is_prompting && !matches!(told, Told::Looks(Sight::End));
+    push_prompt(&mut out, prompt(session, is_prompting))?;
+    Ok(out)
+}
+
+/// What a console says of a run that lies ahead, with the prompt after it.
+pub(crate) fn laid_bytes(
+    alloc: Global,
+    session: &Session<'_>,
+    screen: Screen<'_>,
+    laid: &Laid,
+) -> Result<Vec<u8>, AllocError> {
+    let Screen { script, look } = screen;
+    let mut text = String::new(alloc);
+    push_laid(alloc, session, script, &mut text, laid)?;
+    let marked = marked_bytes(alloc, script, &text)?;
+    laid_out(
+        alloc,
+        &marked,
+        look.width,
+        prompt(session, look.is_prompting),
+    )
+}
