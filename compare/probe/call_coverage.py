@@ -78,7 +78,7 @@ LEFT_OUT = {
     'mpd_console': {
         **dict.fromkeys(('wish', 'go_on', 'is_in_file', 'insert'), 'takes no memory'),
         **dict.fromkeys(('keep', 'reopen', 'refused_again', 'take_named', 'ended_words', 'source_taken', 'source_refused'), BY_WORDS),
-        **dict.fromkeys(('doing_of', 'finish_rank', 'goto_command', 'known_for', 'lead_of', 'push_break_line', 'push_reply'), BY_WORDS)},
+        **dict.fromkeys(('doing_of', 'evaluate', 'finish_rank', 'goto_command', 'known_for', 'lead_of', 'perform', 'sight_of', 'tell', 'tell_value'), BY_WORDS)},
     'mpd_names': {
         'push_read': 'called by explain',
         **dict.fromkeys(('is_blocked', 'can_wake', 'end_name', 'placed_call', 'stand', 'stands'), 'takes no memory'),

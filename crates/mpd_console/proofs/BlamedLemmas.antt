@@ -1,35 +1,34 @@
 -- What is told of the step that decided, put together from its parts.
-use Rattle.std.proofs.Common.{◌≡◌, ℕ, List, ◌++◌, refl, sym, ap, ◌∙◌, append_assoc, subst, inl, inr}
+use Rattle.std.proofs.Common.{◌≡◌, ℕ, Option, Some, None, refl, ap, sym, ◌∙◌, subst}
+use Rattle.std.specs.Prelude.{option_map, IfSome}
 use Rattle.mpd_session.specs.Held.{Held}
+use Rattle.mpd_session.specs.Respond.{respond}
 use Rattle.mpd_session.specs.declared.request.Command.{Command}
 use Rattle.mpd_vocabulary.specs.declared.word.Word.TheVariants as word
-use Rattle.mpd_lines.specs.Folding.{folded_at}
-use Rattle.mpd_marks.specs.Marked.{marked}
-use Rattle.mpd_console.specs.Moves.{goto_command}
 use Rattle.mpd_blame.specs.declared.back.Blame.{Blame}
 use Rattle.mpd_blame.specs.declared.back.Blame.TheVariants as blame_is
 use Rattle.mpd_blame.specs.declared.back.Decided.{Decided}
-use Rattle.mpd_console.specs.Blamed.{TellsBlame}
-use Rattle.mpd_console.specs.declared.prompts.Look.{Look}
-use Rattle.mpd_console.specs.Says.{memory_line, Carried, IsGone, BlamedAs, BlamedBy, Adds}
+use Rattle.mpd_console.specs.declared.told.Blamed.{Blamed}
+use Rattle.mpd_console.specs.declared.told.Carried.{Carried}
+use Rattle.mpd_console.specs.declared.told.Told.{Told}
+use Rattle.mpd_console.specs.declared.told.Told.TheVariants as told
+use Rattle.mpd_console.specs.Moves.{goto_command}
+use Rattle.mpd_console.specs.Blamed.{IsBlamed}
+use Rattle.mpd_console.specs.Says.{asking, carried_of, blamed_by, BlamedAs, BlamedBy}
 
-pub gone_after : (p : Look) (script : List ℕ) (s t : Held) (depth : ℕ) (c : Command) (told before middle after : List ℕ) → middle ≡ before ++ folded_at p.width (marked script told) → c ≡ goto_command s.trail depth → Adds (Carried p script s (word.Goto depth) c t) middle after
-    → Adds (IsGone p script s depth told t) before after
-gone_after p script s t depth c told before middle after m is (z, h, k) = (
-  folded_at p.width (marked script told) ++ z,
-  h ∙ ap (λ x. x ++ z) m ∙ append_assoc before (folded_at p.width (marked script told)) z,
-  inl (z, refl, subst (λ x. Carried p script s (word.Goto depth) x t z) is k),
-)
+-- it was gone to by this command, which is that of `goto`
+gone_by : (s t : Held) (d : Decided) (n : Option ℕ) (o : Option Carried) → t ≡ (respond s (asking (goto_command s.trail d.depth))).1 → IfSome o (λ k. k ≡ carried_of s (word.Goto d.depth) (goto_command s.trail d.depth) t)
+    → BlamedAs s (blame_is.At d) n (option_map (blamed_by (blame_is.At d) n) o) t
+gone_by s t d n None e h = (e, tt)
+gone_by s t d n (Some k) e h = (e, ap (blamed_by (blame_is.At d) n) h)
 
-pub not_gone_to : (p : Look) (script : List ℕ) (s t : Held) (depth : ℕ) (told before after : List ℕ) → t ≡ s → after ≡ before ++ memory_line → Adds (IsGone p script s depth told t) before after
-not_gone_to p script s t depth told before after e h = (memory_line, h, inr (e, refl))
+pub gone_to : (s t : Held) (d : Decided) (c : Command) (n : Option ℕ) (o : Option Carried) (p : Option Told) → c ≡ goto_command s.trail d.depth → t ≡ (respond s (asking c)).1 → IfSome o (λ k. k ≡ carried_of s (word.Goto d.depth) c t)
+    → p ≡ option_map (blamed_by (blame_is.At d) n) o → BlamedAs s (blame_is.At d) n p t
+gone_to s t d c n o p is e h told =
+    subst (λ y. BlamedAs s (blame_is.At d) n y t) (sym told)
+    (gone_by s t d n o (e ∙ ap (λ y. (respond s (asking y)).1) is) (subst (λ y. IfSome o (λ k. k ≡ carried_of s (word.Goto d.depth) y t)) is h))
 
-pub ruleset going = (gone_after, not_gone_to)
+pub blamed_so : (s t : Held) (b c : Blame) (n : Option ℕ) (p : Option Told) → IsBlamed s.trail b n → b ≡ c → BlamedAs s c n p t → BlamedBy s p t
+blamed_so s t b c n p is same h = (b, n, is, subst (λ x. BlamedAs s x n p t) (sym same) h)
 
-pub blamed_at : (p : Look) (script : List ℕ) (s t : Held) (b : Blame) (d : Decided) (told before after : List ℕ) → TellsBlame s.trail b told → b ≡ blame_is.At d → Adds (IsGone p script s d.depth told t) before after → Adds (BlamedBy p script s t) before after
-blamed_at p script s t b d told before after tells is (z, h, k) = (z, h, inl (b, told, tells, subst (λ x. BlamedAs p script s x told t z) (sym is) k))
-
-pub not_blamed : (p : Look) (script : List ℕ) (s t : Held) (before after : List ℕ) → t ≡ s → after ≡ before ++ memory_line → Adds (BlamedBy p script s t) before after
-not_blamed p script s t before after e h = (memory_line, h, inr (e, refl))
-
-pub ruleset blaming = (blamed_at, not_blamed)
+pub ruleset blaming = (blamed_so, gone_to)

@@ -1,8 +1,8 @@
-pub mod SaidLemmas
+pub mod DoneLemmas
+pub mod DeskLemmas
 pub mod BlamedLemmas
 pub mod OpeningLemmas
 pub mod OnwardLemmas
 pub mod MoveLemmas
 pub mod NewsLemmas
-pub mod AgainLemmas
 pub mod QuitLemmas

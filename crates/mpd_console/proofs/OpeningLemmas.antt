@@ -1,5 +1,5 @@
 -- A console with steps ahead, which are taken once to see that they can be.
-use Rattle.std.proofs.Common.{◌≡◌, ℕ, ◌≤◌, List, ◌++◌, length, is_some, Some, None, true, sym, ap, subst, ◌∙◌, arith}
+use Rattle.std.proofs.Common.{◌≡◌, ℕ, ◌≤◌, List, ◌++◌, length, is_some, Some, true, sym, ap, subst, ◌∙◌, arith}
 use Rattle.std.specs.Prelude.{Result, Ok, Err, IfOk, IsErrOf}
 use Rattle.std.proofs.lemmas.List.{length-append, length-take}
 use Rattle.mpd_model.specs.declared.call.Mode.{Mode}
@@ -19,10 +19,9 @@ use Rattle.mpd_runs.specs.declared.given.StepsFault.{StepsFault}
 use Rattle.mpd_runs.specs.declared.given.StepsFault.TheVariants.{NotEnabled}
 use Rattle.mpd_runs.specs.Given.{StopsAt}
 use Rattle.mpd_runs.specs.Seek.{EndsAs, LeadsTo}
-use Rattle.mpd_session.specs.Held.{opened}
-use Rattle.mpd_session.specs.Respond.{laid}
-use Rattle.mpd_console.specs.declared.prompts.Look.{Look}
-use Rattle.mpd_console.specs.Says.{AlongSaid, WitnessSaid, laid_said}
+use Rattle.mpd_console.specs.declared.told.First.{First}
+use Rattle.mpd_console.specs.declared.told.First.TheVariants as first
+use Rattle.mpd_console.specs.Says.{run_ahead, TellsRun, TellsWitness}
 
 -- a debugger has taken no more steps than it keeps
 pub few_behind : (d : Standing) (before steps : List Step) → IsReached d → done_steps d.trail ≡ before ++ steps → length steps ≤ STEPS_MAX
@@ -43,11 +42,10 @@ pub stops_from_start : (s : Program) (mode : Mode) (w : World) (steps : List Ste
     → (place : ℕ) → IsErrOf r (NotEnabled place) → StopsAt (start s mode) steps place
 stops_from_start s mode w steps r is stops place err = subst (λ v. StopsAt v steps place) is (stops place err)
 
-pub said_along : (s : Program) (mode : Mode) (p : Look) (script : List ℕ) (steps : List Step) (e : Ending) (text : List ℕ) → LeadsTo (start s mode) steps e
-    → text ≡ laid_said p script (laid (opened s mode) steps) None e (length steps) → AlongSaid s mode p script steps text
-said_along s mode p script steps e text leads is = (e, leads, is)
+pub tells_run : (s : Program) (mode : Mode) (steps : List Step) (e : Ending) (f : First) → LeadsTo (start s mode) steps e → f ≡ first.Ahead (run_ahead steps e) → TellsRun s mode steps f
+tells_run s mode steps e f leads is = (e, leads, is)
 
-pub ruleset opening = (leads_there, run_from_start, ends_from_start, stops_from_start, said_along)
+pub ruleset opening = (leads_there, run_from_start, ends_from_start, stops_from_start, tells_run)
 
 -- ---- a witness
 
@@ -58,9 +56,9 @@ end_there : (w : World) (e : Ending) (end : WitnessEnd) → EndsAs w e → end_i
 end_there w (Ended o) end ends is = sym (ap end_in ends) ∙ is
 end_there w Cut end ends is = let none : end_in (outcome w) ≡ None = ap end_in ends in cc
 
-pub said_of_witness : (s : Program) (mode : Mode) (p : Look) (script : List ℕ) (x : EndWitness) (text : List ℕ) → IsEndWitness s mode x → AlongSaid s mode p script x.steps text → WitnessSaid s mode p script x text
-said_of_witness s mode p script x text is h =
+pub tells_witness : (s : Program) (mode : Mode) (x : EndWitness) (f : First) → IsEndWitness s mode x → TellsRun s mode x.steps f → TellsWitness s mode x f
+tells_witness s mode x f is h =
     let same : is.last ≡ h.1.last = same_world is.last h.1.last (sym is.leads ∙ h.1.leads) in
     (h.0, end_there h.1.last h.0 x.end h.1.ends (ap (λ v. end_in (outcome v)) (sym same) ∙ is.ends), h.1, h.2)
 
-pub ruleset witnessing = (said_of_witness, said_along)
+pub ruleset witnessing = (tells_witness, tells_run)

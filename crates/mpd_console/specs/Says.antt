@@ -142,12 +142,20 @@ abbrev pub FollowedBy : Held → ℕ → Option WholeRun → Option Told → Hel
 FollowedBy s n None o t = (t ≡ s) × (o ≡ Some told.NoRun)
 FollowedBy s n (Some r) o t = LaidBy s (Some n) r o t
 
--- The step that decided is told, and it is gone to, as `goto` goes there; or where it isn't known which, that is told.
+-- what is told of the step that decided, and of what going to it came to
+abbrev pub blamed_by : Blame → Option ℕ → Carried → Told
+blamed_by b n k = told.Blamed (record { blame = b; number = n; gone = Some k })
+
+-- and where it isn't known which step it is
+abbrev pub blamed_alone : Blame → Option ℕ → Told
+blamed_alone b n = told.Blamed (record { blame = b; number = n; gone = None })
+
+-- It is gone to, as `goto` goes there; or where it isn't known which step it is, that is told.
 abbrev pub BlamedAs : Held → Blame → Option ℕ → Option Told → Held → Type 0
 BlamedAs s (blame_is.At d) n o t =
     (t ≡ (respond s (asking (goto_command s.trail d.depth))).1)
-    × IfSome o (λ k. k ≡ told.Blamed (record { blame = blame_is.At d; number = n; gone = Some (carried_of s (word.Goto d.depth) (goto_command s.trail d.depth) t) }))
-BlamedAs s b n o t = (t ≡ s) × (o ≡ Some (told.Blamed (record { blame = b; number = n; gone = None })))
+    × IfSome o (λ k. k ≡ blamed_by (blame_is.At d) n (carried_of s (word.Goto d.depth) (goto_command s.trail d.depth) t))
+BlamedAs s b n o t = (t ≡ s) × (o ≡ Some (blamed_alone b n))
 
 -- It is told of the run that is kept.
 abbrev pub BlamedBy : Held → Option Told → Held → Type 0

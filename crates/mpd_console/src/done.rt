@@ -1,10 +1,11 @@
 //! What a word does with a session: what it did, and the session after it (docs/CONSOLE.md).
 
-ghost use Rattle.std.specs.Prelude.{◌≡◌, Some, IfOk, IfSome, OnOk, OnErr};
+ghost use Rattle.std.specs.Prelude.{◌≡◌, Some, IfOk, IfSome, OnOk, OnErr, option_map};
 ghost use Rattle.mpd_runs.specs.LastChoice.{last_choice as last_choice_of};
 ghost use Rattle.mpd_session.specs.Respond.{respond};
+ghost use Rattle.mpd_console.specs.declared.told.Told.TheVariants as told;
 ghost use Rattle.mpd_console.specs.Says as spec;
-ghost use Rattle.mpd_console.specs.Says.{BlamedBy, CarriedBy, Does, UndoneBy, asking, carried_of};
+ghost use Rattle.mpd_console.specs.Says.{BlamedAs, BlamedBy, CarriedBy, Does, UndoneBy, asking, carried_of};
 
 use crate::blamed::{Decider, decider_in};
 use crate::carried::carried_by;
@@ -14,7 +15,7 @@ use crate::looks::sight_of;
 use crate::moves::{Doing, doing_of, goto_command};
 use crate::saying::step_words;
 use crate::told::{Blamed, Carried, Sight, Told};
-use mpd_blame::Blame;
+use mpd_blame::{Blame, Decided};
 use mpd_session::{Command, Request, Session};
 use mpd_vocabulary::Word;
 use std::alloc::{AllocError, Global};
@@ -64,8 +65,26 @@ fn carry_out(
     let words = step_words(alloc, session, lead.step)?;
     let request = Request { command, at: None };
     let reply = session.answer(alloc, &request)?;
-    let carried = carried_by(alloc, session, lead, &reply).ok();
-    Ok(Reached { carried, words })
+    match carried_by(alloc, session, lead, &reply) {
+        Ok(carried) => Ok(Reached {
+            carried: Some(carried),
+            words,
+        }),
+        Err(_) => Ok(Reached {
+            carried: None,
+            words,
+        }),
+    }
+}
+
+/// What is told of a request.
+fn told_by(carried: Option<Carried>) -> Option<Told>
+    ensures { result ≡ option_map told.Carried carried }
+{
+    match carried {
+        None => None,
+        Some(carried) => Some(Told::Carried(carried)),
+    }
 }
 
 /// The same as a word.
@@ -80,11 +99,10 @@ fn ask(
     ensures err { OnErr result (session.new ≡ session.old) }
 {
     let Reached { carried, words } = carry_out(alloc, session, word, command)?;
-    let told = match carried {
-        None => None,
-        Some(carried) => Some(Told::Carried(carried)),
-    };
-    Ok(Done { told, words })
+    Ok(Done {
+        told: told_by(carried),
+        words,
+    })
 }
 
 /// A word of which this is told, and nothing was said of the state before it.
@@ -109,8 +127,58 @@ fn undo_choice(alloc: Global, session: &mut Session<'_>, word: Word) -> Result<D
     }
 }
 
+/// What is told of the step that decided, and of what going to it came to.
+fn blamed_by(blame: Blame, number: Option<usize>, carried: Option<Carried>) -> Option<Told>
+    ensures { result ≡ option_map (spec.blamed_by blame number) carried }
+{
+    match carried {
+        None => None,
+        Some(carried) => Some(Told::Blamed(Blamed {
+            blame,
+            number,
+            gone: Some(carried),
+        })),
+    }
+}
+
 /// Goes to where it was decided how the run ends that is kept. An `Err` is want of memory, and then
 /// nothing has changed.
+#[tactic(auto, using(crate::proofs::BlamedLemmas::blaming))]
+fn go_there(
+    alloc: Global,
+    session: &mut Session<'_>,
+    decided: Decided,
+    number: Option<usize>,
+    words: String,
+) -> Result<Done, AllocError>
+    ensures gone { IfOk result (λ d. BlamedAs session.old (Blame.At decided) number d.told session.new) }
+    ensures err { OnErr result (session.new ≡ session.old) }
+{
+    let depth = decided.depth;
+    let command = goto_command(session.debugger(), depth);
+    let reached = carry_out(alloc, session, Word::Goto(depth), command)?;
+    Ok(Done {
+        told: blamed_by(Blame::At(decided), number, reached.carried),
+        words,
+    })
+}
+
+/// Tells that it is not known by which step it was decided, or that it isn't decided.
+fn stay(blame: Blame, number: Option<usize>, words: String) -> Done
+    ensures { result.told ≡ Some (spec.blamed_alone blame number) }
+{
+    Done {
+        told: Some(Told::Blamed(Blamed {
+            blame,
+            number,
+            gone: None,
+        })),
+        words,
+    }
+}
+
+/// Looks for where it was decided how the run ends that is kept, and goes there. An `Err` is want of
+/// memory, and then nothing has changed.
 #[tactic(auto, using(crate::proofs::BlamedLemmas::blaming))]
 fn blame(alloc: Global, session: &mut Session<'_>) -> Result<Done, AllocError>
     ensures blamed { IfOk result (λ d. BlamedBy session.old d.told session.new) }
@@ -121,29 +189,12 @@ fn blame(alloc: Global, session: &mut Session<'_>) -> Result<Done, AllocError>
         number,
         words,
     } = decider_in(alloc, session)?;
-    let Blame::At(decided) = blame else {
-        let told = Told::Blamed(Blamed {
-            blame,
-            number,
-            gone: None,
-        });
-        return Ok(Done {
-            told: Some(told),
-            words,
-        });
-    };
-    let depth = decided.depth;
-    let command = goto_command(session.debugger(), depth);
-    let Reached { carried, .. } = carry_out(alloc, session, Word::Goto(depth), command)?;
-    let told = match carried {
-        None => None,
-        Some(carried) => Some(Told::Blamed(Blamed {
-            blame,
-            number,
-            gone: Some(carried),
-        })),
-    };
-    Ok(Done { told, words })
+    match blame {
+        Blame::At(decided) => go_there(alloc, session, decided, number, words),
+        Blame::FromStart | Blame::OrEarlier(_) | Blame::Open | Blame::Unknown => {
+            Ok(stay(blame, number, words))
+        }
+    }
 }
 
 /// What a word looks at.

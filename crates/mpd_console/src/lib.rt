@@ -4,7 +4,7 @@
 
 pub mod again;
 mod blamed;
-pub mod carried;
+mod carried;
 pub mod desk;
 pub mod done;
 mod found;

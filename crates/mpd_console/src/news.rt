@@ -167,12 +167,12 @@ fn news_of(alloc: Global, core: &Core<'_>, known: Known) -> Result<News, AllocEr
     ensures { IfOk result (λ news. news ≡ spec.news_of known core.now.world) }
 {
     let printed = printed_since(alloc, core, &known.printed.items)?;
-    let lost = lost_calls(alloc, core)?;
+    let now = lost_calls(alloc, core)?;
     Ok(News {
         gone: known.gone,
         printed: PrintedList { items: printed },
         lost_before: known.lost,
-        lost: CallList { items: lost },
+        lost: CallList { items: now },
     })
 }
 

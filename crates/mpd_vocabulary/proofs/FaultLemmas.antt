@@ -1,9 +1,7 @@
 -- Words of a line, one after another.
-use Rattle.std.proofs.Common.{◌≡◌, ℕ, suc, ◌+◌, ◌-◌, ◌<◌, true, false, ◌==◌, List, [], ◌∷◌, ◌++◌, length, codes, refl, ap, sym, ◌∙◌, arith, append_assoc, append-nil}
-use Rattle.std.proofs.lemmas.Bool.Decides.{nat_tests}
-use Rattle.mpd_model.specs.texts.Texts.{line}
+use Rattle.std.proofs.Common.{◌≡◌, ℕ, suc, ◌+◌, ◌-◌, ◌<◌, List, [], ◌∷◌, length, refl, ap, sym, ◌∙◌, arith}
 use Rattle.mpd_vocabulary.specs.Topics.{shared}
-use Rattle.mpd_vocabulary.specs.Faults.{word_at, hint, shorts_line}
+use Rattle.mpd_vocabulary.specs.Faults.{word_at}
 
 skip_to : (a : List ℕ) (more : List (List ℕ)) (n k : ℕ) → n ≡ suc k → word_at (a ∷ more) n ≡ word_at more k
 skip_to a more n k e = ap (word_at (a ∷ more)) e
@@ -36,32 +34,3 @@ pub shared_ended : (i total : ℕ) (z w : List ℕ) → length w ≡ 0 → i + s
 shared_ended i total z w e h = let k : shared z w ≡ 0 = shared_none z w e in omega (arith, k, h)
 
 pub ruleset sharing = (shared_ended, skip_one)
-
--- ---- hints
-
-pub hint_none : (name : List ℕ) → (length name == 0) ≡ true → line (codes "': help all lists all" ++ []) ≡ hint name
-hint_none [] h = refl
-hint_none (b ∷ name) h = grind (arith, nat_tests)
-
-pub hint_some : (name : List ℕ) → (length name == 0) ≡ false → line (codes "': perhaps " ++ name) ≡ hint name
-hint_some [] h = cc
-hint_some (b ∷ name) h = refl
-
-pub ruleset hinting = (hint_none, hint_some)
-
--- ---- short forms
-
-pub no_shorts : (forms old : List ℕ) → (length forms == 0) ≡ true → old ≡ old ++ shorts_line forms
-no_shorts [] old h = sym (append-nil old)
-no_shorts (b ∷ forms) old h = grind (arith, nat_tests)
-
-pub some_shorts : (forms : List ℕ) → (length forms == 0) ≡ false → line (codes "  short: " ++ forms) ≡ shorts_line forms
-some_shorts [] h = cc
-some_shorts (b ∷ forms) h = refl
-
-pub ruleset shortening = (no_shorts, some_shorts)
-
--- ---- texts that grow by parts
-
-pub grown : (old now x y next : List ℕ) → now ≡ old ++ x → next ≡ now ++ y → next ≡ old ++ (x ++ y)
-grown old now x y next h k = k ∙ ap (λ t. t ++ y) h ∙ append_assoc old x y

@@ -242,9 +242,6 @@ pub(crate) fn nearest(word: &[u8]) -> &'static str
     nearer(&NAMES, word)
 }
 
-/// What is told of a word: its `usage`, `purpose`, `details` and `shorts`, as `Entry` names them.
-pub type Told = (&'static str, &'static str, &'static str, &'static str);
-
 /// What is told of a word.
 #[derive(Clone, Copy)]
 pub struct Entry {
@@ -259,245 +256,298 @@ pub struct Entry {
 }
 
 /// What more is told of each step by hand.
-pub const STEP_DETAILS: &str =
+const STEP_DETAILS: &str =
     "; P is a rank, S and R are a send and a receive as 1.0, and I is the number of a request of a waitany, from 0";
 
-pub const NEXT: Told = (
-    "next [N]",
-    "takes the step that comes next",
-    "; at a choice the one that lies ahead, or it lists the candidates, of which next N takes one, from 1 (reports count them from 0, in [..]); elsewhere next N is run N",
-    "n, step, s",
-);
+const NEXT: Entry = Entry {
+    usage: "next [N]",
+    purpose: "takes the step that comes next",
+    details: "; at a choice the one that lies ahead, or it lists the candidates, of which next N takes one, from 1 (reports count them from 0, in [..]); elsewhere next N is run N",
+    shorts: "n, step, s",
+};
 
-pub const RUN: Told = (
-    "run [N]",
-    "goes on to a breakpoint, a choice or an end",
-    "; or so many steps at most",
-    "r, continue, c",
-);
+const RUN: Entry = Entry {
+    usage: "run [N]",
+    purpose: "goes on to a breakpoint, a choice or an end",
+    details: "; or so many steps at most",
+    shorts: "r, continue, c",
+};
 
-pub const UNTIL: Told = (
-    "until LINE, until rank P",
-    "goes on until a rank comes to that line",
-    "; as run does to a breakpoint there; or until rank P has gone on",
-    "",
-);
+const UNTIL: Entry = Entry {
+    usage: "until LINE, until rank P",
+    purpose: "goes on until a rank comes to that line",
+    details: "; as run does to a breakpoint there; or until rank P has gone on",
+    shorts: "",
+};
 
-pub const FINISH: Told = (
-    "finish [P]",
-    "goes on until a rank's call is over",
-    "; the one that rank P waits in, or the rank of the last step",
-    "",
-);
+const FINISH: Entry = Entry {
+    usage: "finish [P]",
+    purpose: "goes on until a rank's call is over",
+    details: "; the one that rank P waits in, or the rank of the last step",
+    shorts: "",
+};
 
-pub const BACK: Told = (
-    "back [N], back rank P",
-    "takes a step back, or so many",
-    "; or goes back to before the last local step of rank P",
-    "bk, undo, rs, reverse-step, reverse-next",
-);
+const BACK: Entry = Entry {
+    usage: "back [N], back rank P",
+    purpose: "takes a step back, or so many",
+    details: "; or goes back to before the last local step of rank P",
+    shorts: "bk, undo, rs, reverse-step, reverse-next",
+};
 
-pub const RUN_BACK: Told = (
-    "run-back",
-    "goes back to a breakpoint, or to the start",
-    "",
-    "rc, reverse-continue",
-);
+const RUN_BACK: Entry = Entry {
+    usage: "run-back",
+    purpose: "goes back to a breakpoint, or to the start",
+    details: "",
+    shorts: "rc, reverse-continue",
+};
 
-pub const UNDO_CHOICE: Told = (
-    "undo-choice",
-    "goes back to the last choice",
-    "; another candidate can be taken there",
-    "u",
-);
+const UNDO_CHOICE: Entry = Entry {
+    usage: "undo-choice",
+    purpose: "goes back to the last choice",
+    details: "; another candidate can be taken there",
+    shorts: "u",
+};
 
-pub const GOTO: Told = (
-    "goto N",
-    "goes to where so many steps are taken",
-    "; back, or along the steps ahead",
-    "g",
-);
+const GOTO: Entry = Entry {
+    usage: "goto N",
+    purpose: "goes to where so many steps are taken",
+    details: "; back, or along the steps ahead",
+    shorts: "g",
+};
 
-pub const RESTART: Told = (
-    "restart",
-    "goes back to the start",
-    "; redo all goes along the same steps again",
-    "",
-);
+const RESTART: Entry = Entry {
+    usage: "restart",
+    purpose: "goes back to the start",
+    details: "; redo all goes along the same steps again",
+    shorts: "",
+};
 
-pub const RELOAD: Told = (
-    "reload",
-    "reads the file of the script again",
-    "; breakpoints stay, and the steps that were taken are taken again, as far as they fit",
-    "",
-);
+const RELOAD: Entry = Entry {
+    usage: "reload",
+    purpose: "reads the file of the script again",
+    details: "; breakpoints stay, and the steps that were taken are taken again, as far as they fit",
+    shorts: "",
+};
 
-pub const SOURCE: Told = (
-    "source FILE",
-    "answers the words of a file",
-    "; each of its lines is answered as if it was typed, and none of them is a source",
-    "",
-);
+const SOURCE: Entry = Entry {
+    usage: "source FILE",
+    purpose: "answers the words of a file",
+    details: "; each of its lines is answered as if it was typed, and none of them is a source",
+    shorts: "",
+};
 
-pub const REDO: Told = (
-    "redo [N], redo all",
-    "takes the first step ahead, or so many",
-    "; as far as there are, or all",
-    "",
-);
+const REDO: Entry = Entry {
+    usage: "redo [N], redo all",
+    purpose: "takes the first step ahead, or so many",
+    details: "; as far as there are, or all",
+    shorts: "",
+};
 
-pub const LOCAL: Told = ("local P", "takes this step", STEP_DETAILS, "");
+const LOCAL: Entry = Entry {
+    usage: "local P",
+    purpose: "takes this step",
+    details: STEP_DETAILS,
+    shorts: "",
+};
 
-pub const MATCH: Told = ("match S R", "takes this step", STEP_DETAILS, "");
+const MATCH: Entry = Entry {
+    usage: "match S R",
+    purpose: "takes this step",
+    details: STEP_DETAILS,
+    shorts: "",
+};
 
-pub const WAKE: Told = ("wake P", "takes this step", STEP_DETAILS, "");
+const WAKE: Entry = Entry {
+    usage: "wake P",
+    purpose: "takes this step",
+    details: STEP_DETAILS,
+    shorts: "",
+};
 
-pub const WAKE_ANY: Told = ("wakeany P I", "takes this step", STEP_DETAILS, "");
+const WAKE_ANY: Entry = Entry {
+    usage: "wakeany P I",
+    purpose: "takes this step",
+    details: STEP_DETAILS,
+    shorts: "",
+};
 
-pub const RELEASE: Told = ("release", "takes this step", STEP_DETAILS, "");
+const RELEASE: Entry = Entry {
+    usage: "release",
+    purpose: "takes this step",
+    details: STEP_DETAILS,
+    shorts: "",
+};
 
-pub const BREAK: Told = (
-    "break LINE [rank P] [if NAME OP N], break match LINE [rank P], break rank P, break change P NAME",
-    "sets a breakpoint",
-    "; after a step by which a rank, or rank P, comes to that line, if its variable compares so with N, OP being ==, !=, <, <=, > or >=; after a match of a call of that line, or of one of rank P; after each step of rank P after which it isn't blocked; after a change of that variable or request of rank P",
-    "b, br",
-);
+const BREAK: Entry = Entry {
+    usage: "break LINE [rank P] [if NAME OP N], break match LINE [rank P], break rank P, break change P NAME",
+    purpose: "sets a breakpoint",
+    details: "; after a step by which a rank, or rank P, comes to that line, if its variable compares so with N, OP being ==, !=, <, <=, > or >=; after a match of a call of that line, or of one of rank P; after each step of rank P after which it isn't blocked; after a change of that variable or request of rank P",
+    shorts: "b, br",
+};
 
-pub const WATCH: Told = (
-    "watch NAME P",
-    "sets a breakpoint on a variable or a request",
-    "; the same as break change P NAME",
-    "",
-);
+const WATCH: Entry = Entry {
+    usage: "watch NAME P",
+    purpose: "sets a breakpoint on a variable or a request",
+    details: "; the same as break change P NAME",
+    shorts: "",
+};
 
-pub const DELETE: Told = ("delete N", "removes a breakpoint", "", "d");
+const DELETE: Entry = Entry {
+    usage: "delete N",
+    purpose: "removes a breakpoint",
+    details: "",
+    shorts: "d",
+};
 
-pub const BREAKS: Told = ("breaks", "lists the breakpoints", "", "");
+const BREAKS: Entry = Entry {
+    usage: "breaks",
+    purpose: "lists the breakpoints",
+    details: "",
+    shorts: "",
+};
 
-pub const INFO: Told = (
-    "info breakpoints, info ranks",
-    "lists breakpoints, or what ranks are doing",
-    "; the same as breaks, and as ranks",
-    "",
-);
+const INFO: Entry = Entry {
+    usage: "info breakpoints, info ranks",
+    purpose: "lists breakpoints, or what ranks are doing",
+    details: "; the same as breaks, and as ranks",
+    shorts: "",
+};
 
-pub const LIST: Told = (
-    "list [P]",
-    "shows the script, and where ranks stand",
-    "; or the lines about rank P",
-    "l",
-);
+const LIST: Entry = Entry {
+    usage: "list [P]",
+    purpose: "shows the script, and where ranks stand",
+    details: "; or the lines about rank P",
+    shorts: "l",
+};
 
-pub const PRINT: Told = (
-    "print EXPR [P]",
-    "shows a variable, a request or an expression",
-    "; of all ranks, or of rank P",
-    "p",
-);
+const PRINT: Entry = Entry {
+    usage: "print EXPR [P]",
+    purpose: "shows a variable, a request or an expression",
+    details: "; of all ranks, or of rank P",
+    shorts: "p",
+};
 
-pub const VARS: Told = (
-    "vars [P]",
-    "shows all variables in short",
-    "; requests, and what was printed, too",
-    "",
-);
+const VARS: Entry = Entry {
+    usage: "vars [P]",
+    purpose: "shows all variables in short",
+    details: "; requests, and what was printed, too",
+    shorts: "",
+};
 
-pub const RANKS: Told = ("ranks", "shows what each rank is doing", "", "bt, where");
+const RANKS: Entry = Entry {
+    usage: "ranks",
+    purpose: "shows what each rank is doing",
+    details: "",
+    shorts: "bt, where",
+};
 
-pub const CALLS: Told = (
-    "calls [P]",
-    "lists the calls of all ranks, or of rank P",
-    "",
-    "",
-);
+const CALLS: Entry = Entry {
+    usage: "calls [P]",
+    purpose: "lists the calls of all ranks, or of rank P",
+    details: "",
+    shorts: "",
+};
 
-pub const QUEUES: Told = (
-    "queues",
-    "lists the sends and receives that are free",
-    "",
-    "",
-);
+const QUEUES: Entry = Entry {
+    usage: "queues",
+    purpose: "lists the sends and receives that are free",
+    details: "",
+    shorts: "",
+};
 
-pub const WHY: Told = (
-    "why [P], why CALL",
-    "says why ranks wait",
-    "; all of them, or rank P; or why a call isn't matched, CALL as 0.1",
-    "w",
-);
+const WHY: Entry = Entry {
+    usage: "why [P], why CALL",
+    purpose: "says why ranks wait",
+    details: "; all of them, or rank P; or why a call isn't matched, CALL as 0.1",
+    shorts: "w",
+};
 
-pub const HISTORY: Told = (
-    "history [N]",
-    "lists the last 10 steps, or the last N",
-    "",
-    "h",
-);
+const HISTORY: Entry = Entry {
+    usage: "history [N]",
+    purpose: "lists the last 10 steps, or the last N",
+    details: "",
+    shorts: "h",
+};
 
-pub const PICTURE: Told = ("picture", "draws the run so far", "", "");
+const PICTURE: Entry = Entry {
+    usage: "picture",
+    purpose: "draws the run so far",
+    details: "",
+    shorts: "",
+};
 
-pub const CHECK: Told = (
-    "check [N]",
-    "tries the choices, and lists how runs end",
-    "; from here, 1,000 or N of them at most",
-    "",
-);
+const CHECK: Entry = Entry {
+    usage: "check [N]",
+    purpose: "tries the choices, and lists how runs end",
+    details: "; from here, 1,000 or N of them at most",
+    shorts: "",
+};
 
-pub const FOLLOW: Told = (
-    "follow N",
-    "lays the steps of a run ahead",
-    "; N is its number in a check from here",
-    "f",
-);
+const FOLLOW: Entry = Entry {
+    usage: "follow N",
+    purpose: "lays the steps of a run ahead",
+    details: "; N is its number in a check from here",
+    shorts: "f",
+};
 
-pub const DEADLOCK: Told = (
-    "deadlock",
-    "lays the first deadlock's steps ahead",
-    "; the first from here, so that run and redo go there; at a deadlock ranks wait, and no step can be taken",
-    "",
-);
+const DEADLOCK: Entry = Entry {
+    usage: "deadlock",
+    purpose: "lays the first deadlock's steps ahead",
+    details: "; the first from here, so that run and redo go there; at a deadlock ranks wait, and no step can be taken",
+    shorts: "",
+};
 
-pub const TRAP: Told = (
-    "trap",
-    "lays the first trap's steps ahead",
-    "; a trap ends a rank at an error, as a failed assert or a division by 0",
-    "",
-);
+const TRAP: Entry = Entry {
+    usage: "trap",
+    purpose: "lays the first trap's steps ahead",
+    details: "; a trap ends a rank at an error, as a failed assert or a division by 0",
+    shorts: "",
+};
 
-pub const BLAME: Told = (
-    "blame",
-    "goes to the step that decided how it ends",
-    "; after that step every run ends badly",
-    "",
-);
+const BLAME: Entry = Entry {
+    usage: "blame",
+    purpose: "goes to the step that decided how it ends",
+    details: "; after that step every run ends badly",
+    shorts: "",
+};
 
-pub const WORDS: Told = (
-    "words",
-    "lists the steps taken as trace words",
-    "; to be kept in a file",
-    "",
-);
+const WORDS: Entry = Entry {
+    usage: "words",
+    purpose: "lists the steps taken as trace words",
+    details: "; to be kept in a file",
+    shorts: "",
+};
 
-pub const ENABLED: Told = ("enabled", "lists the steps that are enabled", "", "");
+const ENABLED: Entry = Entry {
+    usage: "enabled",
+    purpose: "lists the steps that are enabled",
+    details: "",
+    shorts: "",
+};
 
-pub const SHOW: Told = (
-    "show",
-    "shows the whole state, as a trace does",
-    "; docs/FORMATS.md, \"Text of show\"",
-    "",
-);
+const SHOW: Entry = Entry {
+    usage: "show",
+    purpose: "shows the whole state, as a trace does",
+    details: "; docs/FORMATS.md, \"Text of show\"",
+    shorts: "",
+};
 
-pub const HELP: Told = (
-    "help [WORD], help all, help choice",
-    "lists words to begin with, or tells of one",
-    "; help all lists all words; help choice tells what a choice is",
-    "?",
-);
+const HELP: Entry = Entry {
+    usage: "help [WORD], help all, help choice",
+    purpose: "lists words to begin with, or tells of one",
+    details: "; help all lists all words; help choice tells what a choice is",
+    shorts: "?",
+};
 
-pub const QUIT: Told = ("quit", "ends", "", "q, exit");
+const QUIT: Entry = Entry {
+    usage: "quit",
+    purpose: "ends",
+    details: "",
+    shorts: "q, exit",
+};
 
 /// What is told of a word.
-fn told_of(topic: Topic) -> Told
-    ensures { (result.0.now, result.1.now, result.2.now, result.3.now) ≡ spec.told_of topic }
-{
+pub(crate) fn entry_of(topic: Topic) -> Entry {
     match topic {
         Topic::Next => NEXT,
         Topic::Run => RUN,
@@ -543,29 +593,11 @@ fn told_of(topic: Topic) -> Told
     }
 }
 
-/// What is told of a word, by names.
-pub(crate) fn entry_of(topic: Topic) -> Entry
-    ensures usage { result.usage.now ≡ spec.usage_of topic }
-    ensures purpose { result.purpose.now ≡ spec.purpose_of topic }
-    ensures details { result.details.now ≡ spec.details_of topic }
-    ensures shorts { result.shorts.now ≡ spec.shorts_of topic }
-{
-    let (usage, purpose, details, shorts) = told_of(topic);
-    Entry {
-        usage,
-        purpose,
-        details,
-        shorts,
-    }
-}
-
 /// What stands in the first column of the line of help of each step by hand.
-pub const STEP_FORMS: &str = "local P, match S R, wake P, wakeany P I, release";
+const STEP_FORMS: &str = "local P, match S R, wake P, wakeany P I, release";
 
 /// What stands in the first column of the word's line of help.
-pub(crate) fn forms_of(topic: Topic) -> &'static str
-    ensures { result.now ≡ spec.forms_of topic }
-{
+pub(crate) fn forms_of(topic: Topic) -> &'static str {
     match topic {
         Topic::Local | Topic::Match | Topic::Wake | Topic::WakeAny | Topic::Release => STEP_FORMS,
         _ => entry_of(topic).usage,

@@ -1,9 +1,0 @@
-use Rattle.std.proofs.Common.{string_bytes}
-use Rattle.mpd_core.proofs.RangeLemmas.{given_more}
-use Rattle.mpd_model.specs.runs.Breakpoints.{break_at}
-use Rattle.mpd_console.specs.Again.{lost_of}
-use Rattle.mpd_console.proofs.again.push_lost.Goals as goal
-
-pub loop-number-preserved : goal.loop-number-preserved
-loop-number-preserved c =
-    given_more (λ n. lost_of c.args.old.now.program.decls c.args.new.now.program n (break_at c.args.breaks.now n)) c.loop-number.number 64 (string_bytes c.loop-number.out) _ _ c.loop-number-test.true c.loop-number.invariant c.in_ok-push_lost_at.ensures
