@@ -21,7 +21,7 @@ use Rattle.mpd_session.specs.declared.reply.Answer.TheVariants as answer
 use Rattle.mpd_session.specs.declared.reply.Refusal.{Refusal as SessionRefusal}
 use Rattle.mpd_dap.specs.declared.ask.Manner.{Manner}
 use Rattle.mpd_vocabulary.specs.declared.word.Word.{Word}
-use Rattle.mpd_console.specs.Says.{Adds, Console, WordSays, ConsoleSays, asking}
+use Rattle.mpd_console.specs.Says.{Console, WordSays, ConsoleSays, asking}
 use Rattle.mpd_dap.specs.declared.ask.Message.{Message}
 use Rattle.mpd_dap.specs.declared.ask.Wanted.{Wanted}
 use Rattle.mpd_dap.specs.declared.listed.Mark.{Mark}
@@ -103,10 +103,10 @@ pub ruleset marking = (wrote_marked, kept_marked, marks_for, held_for, kept_unsa
 
 -- ---- words
 
-pub said : (d e : Console) (x : Word) (before after : List ℕ) → before ≡ [] → Adds (λ text. WordSays d x text e) before after → WordsSay d (x ∷ []) after e
-said d e x before after none (z, h, told) = (e, z, [], h ∙ ap (λ b. b ++ z) none ∙ sym (append-nil z), told, (refl, refl))
+pub said : (d e : Console) (x : Word) → WordSays d x e → WordsSay d (x ∷ []) e
+said d e x told = (e, told, refl)
 
-pub ruleset saying = (said, append-nil)
+pub ruleset saying = (said)
 
 -- ---- moves
 
@@ -211,19 +211,19 @@ pub ruleset talking = (talked, kept_talked, kept_unsaid)
 
 -- ---- what is done of moves
 
-pub went : (d : Adapter) (e : Console) (asked : Move) (m : Message) (x : Word) (text z : List ℕ) (n k : ℕ) (s : Held) → x ≡ word_in d.console.session asked → WordsSay d.console (x ∷ []) text e → n ≡ d.number → s ≡ e.session
+pub went : (d : Adapter) (e : Console) (asked : Move) (m : Message) (x : Word) (text z : List ℕ) (n k : ℕ) (s : Held) → x ≡ word_in d.console.session asked → WordsSay d.console (x ∷ []) e → n ≡ d.number → s ≡ e.session
     → IsSheet n (frames_of n m (moved_answer asked text s)) z k → Wrote d (Moves asked) m e z k
 went d e asked m x text z n k s is words first at sheet = (
   text,
-  subst (λ y. WordsSay d.console (y ∷ []) text e) is words,
+  subst (λ y. WordsSay d.console (y ∷ []) e) is words,
   subst (λ t. IsSheet d.number (frames_of d.number m (moved_answer asked text t)) z k) at (subst (λ f. IsSheet f (frames_of f m (moved_answer asked text s)) z k) first sheet),
 )
 
 pub kept_before : (d : Adapter) (t : Task) (m : Message) (e : Console) → e ≡ d.console → Kept d t m e
 kept_before d t m e same = inl same
 
-pub kept_behind : (d : Adapter) (e : Console) (asked : Move) (m : Message) (x : Word) (text : List ℕ) → x ≡ word_in d.console.session asked → WordsSay d.console (x ∷ []) text e → Kept d (Moves asked) m e
-kept_behind d e asked m x text is words = inr (text, subst (λ y. WordsSay d.console (y ∷ []) text e) is words)
+pub kept_behind : (d : Adapter) (e : Console) (asked : Move) (m : Message) (x : Word) (text : List ℕ) → x ≡ word_in d.console.session asked → WordsSay d.console (x ∷ []) e → Kept d (Moves asked) m e
+kept_behind d e asked m x text is words = inr (text, subst (λ y. WordsSay d.console (y ∷ []) e) is words)
 
 pub ruleset moving = (went, kept_before, kept_behind)
 
@@ -233,22 +233,22 @@ wrote_so : (d : Adapter) (t : Task) (m : Message) (e : Console) (z : List ℕ) (
 wrote_so d t m e z n k none first sheet = ([], none, subst (λ f. IsSheet f (frames_of f m (answer_of d t m [] e)) z k) first sheet)
 
 pub wrote_refused : (d : Adapter) (r : Refusal) (m : Message) (e : Console) (z : List ℕ) (n k : ℕ) → e ≡ d.console → n ≡ d.number → IsSheet n (frames_of n m (Err r)) z k → Wrote d (Refused r) m e z k
-wrote_refused d r m e z n k same first sheet = wrote_so d (Refused r) m e z n k (refl, same) first sheet
+wrote_refused d r m e z n k same first sheet = wrote_so d (Refused r) m e z n k same first sheet
 
 pub wrote_looked : (d : Adapter) (l : Look) (m : Message) (e : Console) (path z : List ℕ) (n k : ℕ) (s : Held) → e ≡ d.console → n ≡ d.number → path ≡ path_or d.path → s ≡ d.console.session → IsSheet n (frames_of n m (looked_answer s path l)) z k
     → Wrote d (Looks l) m e z k
 wrote_looked d l m e path z n k s same first given at sheet =
-    wrote_so d (Looks l) m e z n k (refl, same) first
+    wrote_so d (Looks l) m e z n k same first
     (subst (λ y. IsSheet n (frames_of n m (looked_answer d.console.session y l)) z k) given (subst (λ t. IsSheet n (frames_of n m (looked_answer t path l)) z k) at sheet))
 
 pub wrote_launched : (d : Adapter) (m : Message) (e : Console) (z : List ℕ) (n k : ℕ) → e ≡ d.console → n ≡ d.number → IsSheet n (frames_of n m (announced event.Initialized)) z k → Wrote d Launches m e z k
-wrote_launched d m e z n k same first sheet = wrote_so d Launches m e z n k (refl, same) first sheet
+wrote_launched d m e z n k same first sheet = wrote_so d Launches m e z n k same first sheet
 
 pub wrote_begun : (d : Adapter) (m : Message) (e : Console) (z : List ℕ) (n k : ℕ) (s : Held) → e ≡ d.console → n ≡ d.number → s ≡ d.console.session → IsSheet n (frames_of n m (begun_answer s)) z k → Wrote d Begins m e z k
-wrote_begun d m e z n k s same first at sheet = wrote_so d Begins m e z n k (refl, same) first (subst (λ t. IsSheet n (frames_of n m (begun_answer t)) z k) at sheet)
+wrote_begun d m e z n k s same first at sheet = wrote_so d Begins m e z n k same first (subst (λ t. IsSheet n (frames_of n m (begun_answer t)) z k) at sheet)
 
 pub wrote_ended : (d : Adapter) (m : Message) (e : Console) (z : List ℕ) (n k : ℕ) → e ≡ d.console → n ≡ d.number → IsSheet n (frames_of n m (announced event.Terminated)) z k → Wrote d Ends m e z k
-wrote_ended d m e z n k same first sheet = wrote_so d Ends m e z n k (refl, same) first sheet
+wrote_ended d m e z n k same first sheet = wrote_so d Ends m e z n k same first sheet
 
 pub ruleset writing = (wrote_refused, wrote_looked, wrote_launched, wrote_begun, wrote_ended, kept_before)
 

@@ -12,7 +12,7 @@ use Rattle.mpd_adapter.specs.Laws.{IsHeaded, SaysNothing}
 use Rattle.mpd_adapter.specs.Says.{Adapter, Spoken, SaysBy, Says}
 
 pub looks_only : (d : Adapter) (m : Message) (l : Look) (said : List ℕ) (e : Console) → Spoken d (Looks l) m said e → e ≡ d.console
-looks_only d m l said e (none, same) = same
+looks_only d m l said e same = same
 
 pub headed : (n : ℕ) (m : Message) (r : Result Answer Refusal) → IsHeaded n m (frames_of n m r)
 headed n m (Ok a) = (response_text n m.seq m.name a.0, a.1, refl, inl (a.0, refl))

@@ -59,10 +59,10 @@ abbrev pub stands_for : Held → Task → List Word
 stands_for s (Moves m) = word_in s m ∷ []
 stands_for s other = []
 
--- A console is said some words, one after another, which it answers by this text, and is e then.
-abbrev pub WordsSay : Console → List Word → List ℕ → Console → Type 0
-WordsSay d [] text e = (text ≡ []) × (e ≡ d)
-WordsSay d (x ∷ xs) text e = (c : Console) × (told : List ℕ) × (rest : List ℕ) × (text ≡ told ++ rest) × WordSays d x told c × WordsSay c xs rest e
+-- A console is said some words, one after another, and is e then.
+abbrev pub WordsSay : Console → List Word → Console → Type 0
+WordsSay d [] e = e ≡ d
+WordsSay d (x ∷ xs) e = (c : Console) × WordSays d x c × WordsSay c xs e
 
 -- the expression of a message
 abbrev pub expression_of : Option Ask → List ℕ
@@ -103,12 +103,12 @@ marked_by d m = marked (is_own d.path m.ask) d.console.session (wanted_of m.ask)
 abbrev pub marks_by : Adapter → Message → List Mark
 marks_by d m = marks_in (is_own d.path m.ask) d.console.session (wanted_of m.ask)
 
--- What a message stands for is said to the console, which answers by this text, and is e then. Breakpoints are set by the session
+-- What a message stands for is said to the console, which answers by a text, of which nothing is told here, and is e then. Breakpoints are set by the session
 -- itself, without a word.
 abbrev pub Spoken : Adapter → Task → Message → List ℕ → Console → Type 0
 Spoken d (Evaluates n p) m said e = ConsoleSays d.console (line_for n p (expression_of m.ask)) said e
 Spoken d Marks m said e = (said ≡ []) × (e ≡ record d.console { session = marked_by d m })
-Spoken d t m said e = WordsSay d.console (stands_for d.console.session t) said e
+Spoken d t m said e = WordsSay d.console (stands_for d.console.session t) e
 
 -- ---- what is told of it
 

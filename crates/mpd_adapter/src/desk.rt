@@ -299,7 +299,7 @@ impl<'c, 't> AdapterDesk<'c, 't> {
     /// Says a word to the console, and gives its answer. An `Err` is want of memory, and then nothing has changed.
     #[tactic(auto, using(crate::proofs::DeskLemmas::saying))]
     fn say(&mut self, alloc: Global, word: Word) -> Result<Vec<u8>, AllocError>
-        ensures said { IfOk result (λ text. WordsSay self.old.console (word ∷ []) text.items self.new.console) }
+        ensures said { OnOk result (WordsSay self.old.console (word ∷ []) self.new.console) }
         ensures err { OnErr result (self.new.console ≡ self.old.console) }
         ensures same { self.new ≡ record self.old { console = self.new.console } }
     {

@@ -2,23 +2,23 @@
 use Rattle.std.proofs.Common.{◌≡◌, ℕ, ◌<◌, ◌⊎◌, List, [], ◌++◌, length, refl, ap, sym, ◌∙◌, subst, inl, inr}
 use Rattle.mpd_model.specs.declared.limits.TheConstants.{LINE_MAX}
 use Rattle.mpd_session.specs.Held.{Held}
-use Rattle.mpd_console.specs.Says.{Adds, Console, ConsoleSays, memory_line}
+use Rattle.mpd_console.specs.Says.{Console, ConsoleSays}
 use Rattle.mpd_view.specs.declared.screen.Size.{Size}
-use Rattle.mpd_view.specs.Says.{drawn, View, IsText, Drawn, ViewSays, undrawn_line}
+use Rattle.mpd_view.specs.Says.{drawn, View, IsText, Drawn, AddsSuch, ViewSays, memory_line, undrawn_line}
 
 -- ---- what is added
 
-pub added_whole : (whole before after : List ℕ) → after ≡ before ++ whole → Adds (IsText whole) before after
+pub added_whole : (whole before after : List ℕ) → after ≡ before ++ whole → AddsSuch (IsText whole) before after
 added_whole whole before after e = (whole, e, inl refl)
 
-pub added_other : (whole before after : List ℕ) → after ≡ before ++ undrawn_line → Adds (IsText whole) before after
+pub added_other : (whole before after : List ℕ) → after ≡ before ++ undrawn_line → AddsSuch (IsText whole) before after
 added_other whole before after e = (undrawn_line, e, inr refl)
 
-pub drawn_whole : (size : Size) (script : List ℕ) (s : Held) (told text before after : List ℕ) → text ≡ drawn size script s told → Adds (IsText text) before after → Adds (Drawn size script s told) before after
+pub drawn_whole : (size : Size) (script : List ℕ) (s : Held) (told text before after : List ℕ) → text ≡ drawn size script s told → AddsSuch (IsText text) before after → AddsSuch (Drawn size script s told) before after
 drawn_whole size script s told text before after e (z, h, inl k) = (z, h, inl (k ∙ e))
 drawn_whole size script s told text before after e (z, h, inr k) = (z, h, inr k)
 
-pub drawn_not : (size : Size) (script : List ℕ) (s : Held) (told before after : List ℕ) → after ≡ before ++ undrawn_line → Adds (Drawn size script s told) before after
+pub drawn_not : (size : Size) (script : List ℕ) (s : Held) (told before after : List ℕ) → after ≡ before ++ undrawn_line → AddsSuch (Drawn size script s told) before after
 drawn_not size script s told before after e = (undrawn_line, e, inr refl)
 
 pub ruleset adding = (added_whole, added_other, drawn_whole, drawn_not)
@@ -36,7 +36,7 @@ pub ruleset typing = (typed, typed_long)
 
 -- ---- lines
 
-pub answered : (d e : View) (z told before after : List ℕ) → e ≡ record d { console = e.console } → ConsoleSays d.console z told e.console → Adds (Drawn e.size e.script e.console.session told) before after
+pub answered : (d e : View) (z told before after : List ℕ) → e ≡ record d { console = e.console } → ConsoleSays d.console z told e.console → AddsSuch (Drawn e.size e.script e.console.session told) before after
     → (text : List ℕ) × (after ≡ before ++ text) × ViewSays d z text e
 answered d e z told before after same says (text, h, is) =
     let P : Size → List ℕ → Type 0 = λ size script. Drawn size script e.console.session told text in
@@ -48,7 +48,7 @@ pub refused : (d e : View) (z before after : List ℕ) → e ≡ record d { cons
 refused d e z before after same held h = (memory_line, h, (same, inr (held, refl)))
 
 pub answered_long : (d e : View) (told before after : List ℕ) → e ≡ record d { console = e.console } → ((line : List ℕ) → LINE_MAX < length line → ConsoleSays d.console line told e.console)
-    → Adds (Drawn e.size e.script e.console.session told) before after → (text : List ℕ) × (after ≡ before ++ text) × ((line : List ℕ) → LINE_MAX < length line → ViewSays d line text e)
+    → AddsSuch (Drawn e.size e.script e.console.session told) before after → (text : List ℕ) × (after ≡ before ++ text) × ((line : List ℕ) → LINE_MAX < length line → ViewSays d line text e)
 answered_long d e told before after same says (text, h, is) =
     let P : Size → List ℕ → Type 0 = λ size script. Drawn size script e.console.session told text in
     let size : e.size ≡ d.size = ap (λ (v : View). v.size) same in

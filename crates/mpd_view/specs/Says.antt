@@ -1,16 +1,26 @@
 -- What a line of a view is answered, and where that leaves the console.
-use Rattle.std.specs.Prelude.{◌≡◌, ℕ, ◌⊎◌, List, [], ◌∷◌, codes, refl}
+use Rattle.std.specs.Prelude.{◌≡◌, ℕ, ◌⊎◌, List, [], ◌∷◌, ◌++◌, Option, Some, None, codes, refl}
 use Rattle.std.specs.Coded.{Coded, code_by, coded×, coded_ℕ, coded_list}
 use Rattle.mpd_model.specs.texts.Texts.{line}
+use Rattle.mpd_model.specs.steps.World.{World}
 use Rattle.mpd_model.specs.runs.Trail.{world_of}
 use Rattle.mpd_session.specs.Held.{Held}
-use Rattle.mpd_console.specs.Says.{Console, console_code, ConsoleSays, at_world, memory_line}
+use Rattle.mpd_console.specs.Says.{Console, console_code, ConsoleSays}
 use Rattle.mpd_view.specs.declared.screen.Size.{Size}
 use Rattle.mpd_view.specs.Screens.{screen_text}
+
+-- what stands in the place of an answer where memory is refused before anything was done
+abbrev pub memory_line : List ℕ
+memory_line = line (codes "refused: memory")
 
 -- what stands in the place of a screen whose text is refused memory
 abbrev pub undrawn_line : List ℕ
 undrawn_line = line (codes "memory for the screen was refused")
+
+-- a text of the world where a session stands; no session holds a trail that leads nowhere
+abbrev pub at_world : (World → List ℕ) → Option World → List ℕ
+at_world f None = []
+at_world f (Some w) = f w
 
 -- the screen of a session after what a console has said; nothing after nothing
 abbrev pub drawn : Size → List ℕ → Held → List ℕ → List ℕ
@@ -20,6 +30,10 @@ drawn size script s (b ∷ z) = at_world (λ w. screen_text size script s.trail 
 -- a text, or that line in its place
 abbrev pub IsText : List ℕ → List ℕ → Type 0
 IsText whole text = (text ≡ whole) ⊎ (text ≡ undrawn_line)
+
+-- What stood before stays, and what is added is such a text.
+abbrev pub AddsSuch : (List ℕ → Type 0) → List ℕ → List ℕ → Type 0
+AddsSuch P before after = (text : List ℕ) × (after ≡ before ++ text) × P text
 
 -- the screen after an answer, or that line in its place
 abbrev pub Drawn : Size → List ℕ → Held → List ℕ → List ℕ → Type 0

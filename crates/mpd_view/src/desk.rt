@@ -1,8 +1,8 @@
 //! What answers the lines of a view: a desk over the console, which draws the screen after each line.
 
 ghost use Rattle.std.specs.Prelude.{[], ◌≡◌, ◌+◌, ◌≤◌, ◌<◌, ◌++◌, ℕ, List, IfOk, OnOk, OnErr, length, vec_len, vec_capacity};
-ghost use Rattle.mpd_console.specs.Says.{ConsoleSays, Adds};
-ghost use Rattle.mpd_view.specs.Says.{drawn, Drawn, IsText};
+ghost use Rattle.mpd_console.specs.Says.{ConsoleSays};
+ghost use Rattle.mpd_view.specs.Says.{drawn, AddsSuch, Drawn, IsText};
 
 use crate::screen::{Drawing, Size, push_screen};
 use mpd_console::ConsoleDesk;
@@ -40,7 +40,7 @@ fn drawn_text(
 #[tactic(auto, using(crate::proofs::DeskLemmas::adding))]
 fn add(text: &[u8], out: &mut Vec<u8>)
     requires room { vec_len out.old + ROOM ≤ vec_capacity out.old }
-    ensures added { Adds (IsText text.now) out.old.items out.new.items }
+    ensures added { AddsSuch (IsText text.now) out.old.items out.new.items }
     ensures capacity { vec_capacity out.old ≤ vec_capacity out.new }
 {
     match out.extend_from_slice(text) {
@@ -111,7 +111,7 @@ impl<'c, 't> ViewDesk<'c, 't> {
     #[tactic(auto, using(crate::proofs::DeskLemmas::adding))]
     fn draw(&self, alloc: Global, told: &[u8], out: &mut Vec<u8>)
         requires room { vec_len out.old + ROOM ≤ vec_capacity out.old }
-        ensures drawn { Adds (Drawn self.now.size self.now.script self.now.console.session told.now) out.old.items out.new.items }
+        ensures drawn { AddsSuch (Drawn self.now.size self.now.script self.now.console.session told.now) out.old.items out.new.items }
         ensures capacity { vec_capacity out.old ≤ vec_capacity out.new }
     {
         let Ok(text) = self.screen(alloc, told) else {
