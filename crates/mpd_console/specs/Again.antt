@@ -1,21 +1,14 @@
 -- A script that is read again: what is kept of a session, and the session that begins anew with it.
 use Rattle.std.specs.Prelude.{ℕ, suc, ◌+◌, ◌++◌, Bool, true, false, if◌then◌else◌, nat_lt, List, [], ◌∷◌, length, flat_map, Option, Some, None, option_and_then, codes}
 use Rattle.std.specs.List.{range_with_len}
-use Rattle.std.specs.Fmt.{decimal}
 use Rattle.mpd_model.specs.declared.limits.TheConstants.{BREAKS_MAX}
 use Rattle.mpd_model.specs.declared.breakpoint.Breakpoint.{Breakpoint}
 use Rattle.mpd_model.specs.declared.breakpoint.Breakpoint.TheVariants as on
-use Rattle.mpd_model.specs.declared.read_fault.ReadFault.{ReadFault}
 use Rattle.mpd_model.specs.declared.step.Step.{Step}
 use Rattle.mpd_model.specs.script.Declaration.{Declared}
 use Rattle.mpd_model.specs.script.Program.{Program}
 use Rattle.mpd_model.specs.runs.Breakpoints.{break_at}
-use Rattle.mpd_model.specs.runs.Trail.{world_of}
-use Rattle.mpd_model.specs.texts.Texts.{line}
-use Rattle.mpd_model.specs.texts.FaultText.{read_fault_text}
 use Rattle.mpd_names.specs.Called.{break_text}
-use Rattle.mpd_explain.specs.Standing.{standing_text}
-use Rattle.mpd_runs.specs.Seek.{count_words}
 use Rattle.mpd_session.specs.declared.request.Command.{Command}
 use Rattle.mpd_session.specs.declared.request.Command.TheVariants as command
 use Rattle.mpd_session.specs.declared.reply.Reply.{Reply}
@@ -27,12 +20,10 @@ use Rattle.mpd_vocabulary.specs.declared.word.Word.TheVariants as word
 use Rattle.mpd_vocabulary.specs.declared.read.Line.{Line}
 use Rattle.mpd_vocabulary.specs.declared.read.Line.TheVariants.{Says}
 use Rattle.mpd_vocabulary.specs.Reading.{line_of}
-use Rattle.mpd_console.specs.declared.prompts.Look.{Look}
-use Rattle.mpd_console.specs.declared.again.Unread.{Unread}
-use Rattle.mpd_console.specs.declared.again.Unread.TheVariants as why
-use Rattle.mpd_console.specs.Moves.{break_line}
-use Rattle.mpd_marks.specs.Marked.{marked}
-use Rattle.mpd_console.specs.Says.{said, asking, at_world}
+use Rattle.mpd_console.specs.declared.told.First.{First}
+use Rattle.mpd_console.specs.declared.told.First.TheVariants as first
+use Rattle.mpd_console.specs.declared.told.Numbered.{Numbered}
+use Rattle.mpd_console.specs.Says.{asking}
 
 -- ---- breakpoints, as the script that is read again has their names
 

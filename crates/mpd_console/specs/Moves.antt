@@ -1,46 +1,28 @@
--- Words that ask the session for something that changes it: what they ask, and what is told of the reply.
-use Rattle.std.specs.Prelude.{ℕ, ◌-◌, ◌==◌, Bool, true, false, ◌&&◌, ◌||◌, not, min, drop, nat_lt, nat_le, is_some, is_none, if◌then◌else◌, List, [], ◌∷◌, ◌++◌, length, slice_get, Option, Some, None, codes}
-use Rattle.std.specs.Fmt.{decimal}
+-- What words ask of the session, and what is known of them before.
+use Rattle.std.specs.Prelude.{ℕ, ◌-◌, ◌==◌, Bool, true, false, ◌&&◌, ◌||◌, not, min, drop, nat_lt, nat_le, is_some, is_none, if◌then◌else◌, List, [], ◌∷◌, length, slice_get, Option, Some, None}
+use Rattle.mpd_model.specs.declared.limits.TheConstants.{STEPS_MAX}
 use Rattle.mpd_model.specs.declared.step.Step.{Step}
 use Rattle.mpd_model.specs.declared.decision.Decision.{Decision}
 use Rattle.mpd_model.specs.declared.decision.Decision.TheVariants.{Forced, Choice, Leaf}
-use Rattle.mpd_model.specs.declared.breakpoint.Breakpoint.{Breakpoint}
 use Rattle.mpd_model.specs.declared.breakpoint.Breakpoint.TheVariants as on
-use Rattle.mpd_model.specs.declared.breakpoint.Cause.{Cause}
-use Rattle.mpd_model.specs.declared.breakpoint.Cause.TheVariants as for
-use Rattle.mpd_model.specs.declared.breakpoint.Stop.{Stop}
-use Rattle.mpd_model.specs.script.Declaration.{Declared}
-use Rattle.mpd_model.specs.script.Program.{Program}
-use Rattle.mpd_model.specs.declared.limits.TheConstants.{STEPS_MAX}
 use Rattle.mpd_model.specs.steps.World.{World}
 use Rattle.mpd_model.specs.steps.Next.{waits}
+use Rattle.mpd_model.specs.runs.Breakpoints.{no_breaks}
 use Rattle.mpd_model.specs.runs.Decisions.{decision}
 use Rattle.mpd_model.specs.runs.Running.{all_applied}
 use Rattle.mpd_model.specs.runs.Trail.{Trail, step_eq, forgotten}
-use Rattle.mpd_model.specs.texts.Texts.{line}
-use Rattle.mpd_model.specs.runs.Breakpoints.{no_breaks, break_at}
 use Rattle.mpd_session.specs.declared.request.Command.{Command}
 use Rattle.mpd_session.specs.declared.request.Command.TheVariants as command
-use Rattle.mpd_session.specs.declared.reply.Answer.{Answer}
-use Rattle.mpd_session.specs.declared.reply.Answer.TheVariants as answer
-use Rattle.mpd_session.specs.declared.reply.Refusal.{Refusal}
-use Rattle.mpd_session.specs.declared.reply.Refusal.TheVariants as refusal
-use Rattle.mpd_session.specs.declared.reply.Reply.{Reply}
-use Rattle.mpd_session.specs.declared.reply.Reply.TheVariants as reply
 use Rattle.mpd_policy.specs.Single.{single, only_step, ran_on}
-use Rattle.mpd_policy.specs.Last.{last_hit}
-use Rattle.mpd_names.specs.Called.{break_text}
-use Rattle.mpd_explain.specs.Steps.{step_words}
-use Rattle.mpd_explain.specs.Standing.{standing_text}
+use Rattle.mpd_runs.specs.declared.way.Way.TheVariants as way
+use Rattle.mpd_vocabulary.specs.declared.word.Word.{Word}
+use Rattle.mpd_vocabulary.specs.declared.word.Word.TheVariants as word
+use Rattle.mpd_console.specs.declared.lead.Lead.{Lead}
 use Rattle.mpd_console.specs.declared.moves.TheConstants.{NO_CANDIDATE}
 use Rattle.mpd_console.specs.declared.moves.Doing.{Doing}
 use Rattle.mpd_console.specs.declared.moves.Doing.TheVariants.{Asks, Undoes, Seeks, Follows, Blames, Looks}
-use Rattle.mpd_runs.specs.declared.way.Way.TheVariants as way
-use Rattle.mpd_runs.specs.Seek.{count_words}
-use Rattle.mpd_console.specs.News.{Known, known_for, news_text}
+use Rattle.mpd_console.specs.News.{known_for}
 use Rattle.mpd_console.specs.Onward.{on_line, begins, is_line, steps_to, steps_to_wake, is_rank, depth_before, finish_rank}
-use Rattle.mpd_vocabulary.specs.declared.word.Word.{Word}
-use Rattle.mpd_vocabulary.specs.declared.word.Word.TheVariants as word
 
 -- ---- what a word asks for
 

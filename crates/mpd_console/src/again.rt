@@ -10,7 +10,7 @@ ghost use Rattle.mpd_console.specs.Says as says;
 
 use crate::desk::{ConsoleDesk, Screen};
 use crate::opening::Opened;
-use crate::prompts::{laid_out, marked_bytes, prompt};
+use crate::prompts::{laid_out, marked_bytes, prompt_in};
 use crate::saying::{push_break_line, push_where};
 use crate::told::{First, Numbered, NumberedList};
 use mpd_code::{Code, Subject};
@@ -313,7 +313,7 @@ fn again_bytes(
     told.extend_from_slice(line.as_bytes())?;
     told.extend_from_slice(&kept.words)?;
     told.extend_from_slice(&standing)?;
-    laid_out(alloc, &told, look.width, prompt(session, look.is_prompting))
+    laid_out(alloc, &told, look.width, prompt_in(session, look.is_prompting))
 }
 
 /// Has a session at the start of a script be where the one was that is kept: sets its breakpoints again, and takes its steps again as far as
@@ -408,6 +408,6 @@ pub fn refused_again(
         Unread::Memory => told.push_str("refused: memory\n")?,
     }
     let look = desk.screen().look;
-    let prompt = prompt(desk.session(), look.is_prompting);
+    let prompt = prompt_in(desk.session(), look.is_prompting);
     laid_out(alloc, told.as_bytes(), look.width, prompt)
 }

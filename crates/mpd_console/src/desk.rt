@@ -7,7 +7,7 @@ ghost use Rattle.mpd_console.specs.Says as spec;
 ghost use Rattle.mpd_console.specs.Says.{Adds, Evaluated};
 
 use crate::done::{Done, perform};
-use crate::prompts::{Look, idle_bytes, laid_out, prompt};
+use crate::prompts::{Look, idle_bytes, laid_out, prompt_in};
 use crate::saying::told_bytes;
 use crate::told::Told;
 use crate::values::{Valued, is_valued, keep, keeps_none, push_valued, valued_in};
@@ -87,7 +87,7 @@ fn fault_bytes(
 ) -> Result<Vec<u8>, AllocError> {
     let mut told = String::new(alloc);
     push_fault(&mut told, line, fault)?;
-    let prompt = prompt(session, look.is_prompting);
+    let prompt = prompt_in(session, look.is_prompting);
     laid_out(alloc, told.as_bytes(), look.width, prompt)
 }
 
@@ -101,7 +101,7 @@ fn valued_bytes(
 ) -> Result<Vec<u8>, AllocError> {
     let mut told = String::new(alloc);
     push_valued(&mut told, session.code().decls(), text, valued)?;
-    let prompt = prompt(session, look.is_prompting);
+    let prompt = prompt_in(session, look.is_prompting);
     laid_out(alloc, told.as_bytes(), look.width, prompt)
 }
 
@@ -298,7 +298,7 @@ impl<'c, 't> ConsoleDesk<'c, 't> {
         ensures kept { Adds out.old.items out.new.items }
         ensures capacity { vec_capacity out.old ≤ vec_capacity out.new }
     {
-        let prompt = prompt(&self.session, self.screen.look.is_prompting);
+        let prompt = prompt_in(&self.session, self.screen.look.is_prompting);
         add(idle_bytes(alloc, prompt), MEMORY, out)
     }
 

@@ -12,7 +12,7 @@ ghost use Rattle.mpd_console.specs.Says as says;
 ghost use Rattle.mpd_console.specs.Says.{TellsRun, TellsWitness};
 
 use crate::desk::{ConsoleDesk, Screen};
-use crate::prompts::{idle_bytes, prompt};
+use crate::prompts::{idle_bytes, prompt_in};
 use crate::saying::laid_bytes;
 use crate::told::{First, Laid};
 use mpd_code::Subject;
@@ -56,7 +56,7 @@ pub fn open<'c, 't>(
     let Ok(session) = Session::start(alloc, subject.code, subject.mode) else {
         return Err(OpenFault::Memory);
     };
-    let Ok(said) = idle_bytes(alloc, prompt(&session, screen.look.is_prompting)) else {
+    let Ok(said) = idle_bytes(alloc, prompt_in(&session, screen.look.is_prompting)) else {
         return Err(OpenFault::Memory);
     };
     Ok(Opened {

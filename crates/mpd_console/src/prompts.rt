@@ -37,7 +37,7 @@ impl fmt::Display for Prompt {
 }
 
 /// The prompt of a session, if one is wanted.
-pub(crate) fn prompt(session: &Session<'_>, is_prompting: bool) -> Prompt
+pub(crate) fn prompt_in(session: &Session<'_>, is_prompting: bool) -> Prompt
     ensures { result.depth ≡ prompted is_prompting session.now }
 {
     if !is_prompting {

@@ -3,7 +3,7 @@
 
 use crate::desk::Screen;
 use crate::looks::push_sight;
-use crate::prompts::{laid_out, marked_bytes, prompt, push_prompt};
+use crate::prompts::{laid_out, marked_bytes, prompt_in, push_prompt};
 use crate::told::{Carried, Laid, Moved, News, Numbered, Printed, Sight, Stopped, Told, Went, Why};
 use mpd_blame::{Blame, push_blame};
 use mpd_core::Core;
@@ -300,7 +300,7 @@ enum Layout {
 }
 
 /// How the lines are laid out that are said of a word.
-fn layout(told: &Told) -> Layout {
+fn layout_of(told: &Told) -> Layout {
     match told {
         Told::Looks(Sight::Script(_) | Sight::Whole | Sight::Words | Sight::Picture) => {
             Layout::Bare
@@ -323,7 +323,7 @@ pub(crate) fn told_bytes(
     let mut text = String::new(alloc);
     push_told(alloc, session, script, &mut text, told, words)?;
     let mut out = Vec::new(alloc);
-    match layout(told) {
+    match layout_of(told) {
         Layout::Bare => out.extend_from_slice(text.as_bytes())?,
         Layout::Folded => push_folded_at(&mut out, text.as_bytes(), look.width)?,
         Layout::Marked => {
@@ -332,7 +332,7 @@ pub(crate) fn told_bytes(
         }
     }
     let is_prompting = look.is_prompting && !matches!(told, Told::Looks(Sight::End));
-    push_prompt(&mut out, prompt(session, is_prompting))?;
+    push_prompt(&mut out, prompt_in(session, is_prompting))?;
     Ok(out)
 }
 
@@ -351,6 +351,6 @@ pub(crate) fn laid_bytes(
         alloc,
         &marked,
         look.width,
-        prompt(session, look.is_prompting),
+        prompt_in(session, look.is_prompting),
     )
 }

@@ -4,7 +4,7 @@ ghost use Rattle.std.specs.Prelude.{◌≡◌, IfOk};
 ghost use Rattle.mpd_console.specs.Quitting.{ended};
 
 use crate::desk::ConsoleDesk;
-use crate::prompts::{idle_bytes, laid_out, prompt};
+use crate::prompts::{idle_bytes, laid_out, prompt_in};
 use mpd_vocabulary::push_quoted;
 use std::alloc::{AllocError, Global};
 
@@ -38,7 +38,7 @@ pub fn ended_words(file: Vec<u8>) -> Result<Vec<u8>, AllocError>
 /// What a console says before the words of a file are answered: a prompt, if prompts are wanted. An
 /// `Err` is want of memory.
 pub fn source_taken(alloc: Global, desk: &ConsoleDesk<'_, '_>) -> Result<Vec<u8>, AllocError> {
-    let prompt = prompt(desk.session(), desk.screen().look.is_prompting);
+    let prompt = prompt_in(desk.session(), desk.screen().look.is_prompting);
     idle_bytes(alloc, prompt)
 }
 
@@ -66,6 +66,6 @@ pub fn source_refused(
         Unsourced::Memory => told.push_str("refused: memory\n")?,
     }
     let look = desk.screen().look;
-    let prompt = prompt(desk.session(), look.is_prompting);
+    let prompt = prompt_in(desk.session(), look.is_prompting);
     laid_out(alloc, told.as_bytes(), look.width, prompt)
 }
