@@ -191,7 +191,7 @@ def parser():
     found.add_argument('--only', action='append', metavar='NAME', help='a file without its .txt, or a case; may stand several times')
     found.add_argument('--write', action='store_true', help='write files anew in which a case differs')
     found.add_argument('--jobs', type=int, default=2, help='how many processes (2)')
-    found.add_argument('--seconds', type=float, default=120, help='how long one run may take (120)')
+    found.add_argument('--seconds', type=float, default=600, help='how long one run may take (600)')
     found.add_argument('--memory', type=int, default=4096, help='how much memory the program may take, in MiB (4096)')
     found.add_argument('--output', type=int, default=64, help='how much the program may write, in MiB (64)')
     return found
