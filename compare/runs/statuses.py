@@ -233,6 +233,13 @@ def usage_rows(program):
     for told, *options in (('--piece', '--piece', '0'), ('--pieces', '--pieces'), ('--piece', '--pieces', '--piece=9'), ('--piece', '--modes', '1', '--piece', '0')):
         refusal = Result(b'', f"mpdbg: --complete and {told} can't stand together\n".encode(), 2)
         yield f'all of {options}', no_input(program, 'check', 'no-such-file', '--complete', *options, '--mode', 'no-mode'), refusal
+    # what can't stand beside an option of `check`, each alone, and with all that is told behind it in front of it
+    for words, others in NOT_BESIDE:
+        for place, other in enumerate(others):
+            refusal = Result(b'', f"mpdbg: {words[0]} and {other[0]} can't stand together\n".encode(), 2)
+            behind = [word for it in reversed(others[place + 1:]) for word in it]
+            for more in ([], behind) if behind else ([],):
+                yield f'{more} and {other} beside {words}', no_input(program, 'check', 'no-such-file', *more, *other, *words, '--mode', 'no-mode'), refusal
     # what can't stand beside a sample, and a seed without one, are told first
     for told, *options in (("--sample and --piece can't stand together", '--sample', '3'), ('--seed wants --sample', '--seed', '3')):
         refusal = Result(b'', f'mpdbg: {told}\n'.encode(), 2)
@@ -252,6 +259,14 @@ def usage_rows(program):
     yield 'a script in C, output full', full_c, device()
     full_help = Files(file_of(b''), full()).run(program, '--help')
     yield 'help, output full', full_help, device()
+
+
+# What can't stand beside some options of `check`, in the order in which it is told.
+PIECES = ('--piece', '0'), ('--pieces',)
+NOT_BESIDE = (
+    (('--outcomes',), (('--ends',), ('--runs', '5'), ('--split', '1'), *PIECES, ('--sample', '3'), ('--seed', '3'), ('--group',))),
+    (('--sample', '3'), (('--ends',), ('--runs', '5'), ('--split', '1'), *PIECES, ('--modes', '1'))),
+    (('--sample', '3', '--seed', '5', '--complete'), PIECES), (('--complete', '--modes', '1', '--until', 'deadlock'), PIECES))
 
 
 def wrong_words(mistake):
