@@ -313,7 +313,12 @@ fn again_bytes(
     told.extend_from_slice(line.as_bytes())?;
     told.extend_from_slice(&kept.words)?;
     told.extend_from_slice(&standing)?;
-    laid_out(alloc, &told, look.width, prompt_in(session, look.is_prompting))
+    laid_out(
+        alloc,
+        &told,
+        look.width,
+        prompt_in(session, look.is_prompting),
+    )
 }
 
 /// Has a session at the start of a script be where the one was that is kept: sets its breakpoints again, and takes its steps again as far as
