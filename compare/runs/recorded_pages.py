@@ -37,6 +37,8 @@ SOURCES = f'{TOP}/compare/recorded/programs'
 # Words of a page that tell something bad.
 ALARMS = ('HANG', 'SENDS', 'LEFT', 'LENGTH', 'DIFFER', 'STILL', 'ABSENT', 'REQUEST', 'TYPES', 'BUFFER', 'FINALIZE', 'ERROR', 'COMM', 'OPEN')
 FORMS = (('', ()), ('.mended', ('-DMENDED',)))
+# How long mpdrec may take, in seconds, to end after an interrupt, on a machine that does much else.
+CLEANING = 300
 COMMAND = re.compile(r'(?:^  |steps: )\./mpdbg (?:debug|diagnose) (\S+) --mode (\S+)$')
 
 
@@ -163,7 +165,11 @@ def wrong_interrupt(library, folder):
     while not told or not told[-1].startswith('run 1 of 60: ') and told[-1]:
         told.append(process.stderr.readline())
     process.send_signal(signal.SIGINT)
-    page, more = process.communicate(timeout=60)
+    try:
+        page, more = process.communicate(timeout=CLEANING)
+    except subprocess.TimeoutExpired:
+        process.kill()
+        return [f'interrupted: {told}, and not ended after {CLEANING} seconds']
     is_right = told[0].startswith('first run: ') and ('; interrupted\n' in page or '\nSTOPPED ' in page) and 'Traceback' not in more
     return [] if is_right and '\nRUN ' in page and '\nORDER ' in page else [f'interrupted: {told}, {more}, {page}']
 
