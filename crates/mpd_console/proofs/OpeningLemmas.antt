@@ -1,5 +1,5 @@
 -- A console with steps ahead, which are taken once to see that they can be.
-use Rattle.std.proofs.Common.{◌≡◌, ℕ, ◌≤◌, List, ◌++◌, length, is_some, Some, true, sym, ap, subst, ◌∙◌, arith}
+use Rattle.std.proofs.Common.{◌≡◌, ℕ, ◌≤◌, List, ◌++◌, length, is_some, Some, None, true, sym, ap, subst, ◌∙◌, arith}
 use Rattle.std.specs.Prelude.{Result, Ok, Err, IfOk, IsErrOf}
 use Rattle.std.proofs.lemmas.List.{length-append, length-take}
 use Rattle.mpd_model.specs.declared.call.Mode.{Mode}

@@ -118,7 +118,6 @@ fn number_for(alloc: Global, core: &Core<'_>, blame: Blame) -> Result<Option<usi
 
 /// Where it was decided how the run of a debugger ends. The debugger is left on the way back along
 /// its run.
-#[tactic(auto, using(crate::proofs::BlamedLemmas::deciding))]
 fn decider_of(alloc: Global, whole: &mut Debugger<'_>) -> Result<Decider, AllocError>
     requires clean { length whole.old.trail.steps ≡ whole.old.trail.depth }
     ensures { IfOk result (λ b. IsBlamed whole.old.trail b.blame b.number) }
@@ -141,7 +140,6 @@ fn decider_of(alloc: Global, whole: &mut Debugger<'_>) -> Result<Decider, AllocE
 }
 
 /// The same of the run that a session keeps.
-#[tactic(auto, using(crate::proofs::BlamedLemmas::deciding))]
 pub(crate) fn decider_in(alloc: Global, session: &Session<'_>) -> Result<Decider, AllocError>
     ensures { IfOk result (λ b. IsBlamed session.now.trail b.blame b.number) }
 {

@@ -112,7 +112,10 @@ fn push_behind(
 ) -> Result<(), AllocError>
     ensures { OnOk result (list.new.items ≡ list.old.items ++ map (spec.printed_value rank) (drop count values.now)) }
 {
-    let (_, behind) = values.split_at(count.min(values.len()));
+    if count >= values.len() {
+        return Ok(());
+    }
+    let (_, behind) = values.split_at(count);
     for value in behind {
         list.push(Printed {
             rank,
