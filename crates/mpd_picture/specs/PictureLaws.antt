@@ -31,8 +31,8 @@ abbrev pub is_drawn : MatchSet → Bool
 is_drawn (Woke c) = false
 is_drawn m = true
 
--- In the drawing of any run the arrows are exactly the pairs of its state, each from its send to its
--- receive, and the bars its releases, in the order in which they were formed.
+-- In the drawing of any run the arrows are exactly the pairs of its state, each from its send to
+-- its receive, and the bars its releases, in the order in which they were formed.
 abbrev pub ArrowsArePairs : Type 0
 ArrowsArePairs =
     (s : Program) (mode : Mode) (steps : List Step) (w : World) → fold (start s mode) steps ≡ Some w

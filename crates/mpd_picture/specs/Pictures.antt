@@ -18,8 +18,13 @@ few glyphs = nat_le (length glyphs) GLYPHS_MAX
 abbrev pub trail_glyphs : Trail → List Glyph
 trail_glyphs t = glyphs_of t.program t.mode (done_steps t)
 
--- This is the picture of so many steps of a script that show this and lead to this world.
-pub record IsPicture (s : Program) (w : World) (n : ℕ) (ms : List Glyph) (p : Picture) : Type 0 where
+-- whether the steps of a trail that are not undone are drawn
+abbrev pub is_drawn : Trail → Bool
+is_drawn t = few (trail_glyphs t)
+
+-- This is the picture of n steps of a script that show this and lead to this world.
+pub record IsPicture (s : Program) (w : World) (n : ℕ) (ms : List Glyph) (p : Picture)
+    : Type 0 where
   pub ranks : p.ranks ≡ length w.board.calls
   pub mode : p.mode ≡ w.board.mode
   pub depth : p.depth ≡ n
@@ -27,3 +32,7 @@ pub record IsPicture (s : Program) (w : World) (n : ℕ) (ms : List Glyph) (p : 
   pub rows : p.rows ≡ rows_of (marks_of ms)
   pub places : p.places ≡ places_of ms
   pub shapes : p.shapes.items ≡ shapes_of s w (marks_of ms)
+
+-- This is the picture of the steps of a trail that are not undone and lead to this world.
+abbrev pub IsPictureOf : Trail → World → Picture → Type 0
+IsPictureOf t w p = IsPicture t.program w t.depth (trail_glyphs t) p

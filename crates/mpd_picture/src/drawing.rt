@@ -1,7 +1,7 @@
 //! Pictures of the steps of a debugger that are not undone, as SVG and as text.
 
 ghost use Rattle.std.specs.Prelude.{◌≡◌, ◌≤◌, true, false, IfOk, IsErrOf};
-ghost use Rattle.mpd_picture.specs.Pictures.{few, trail_glyphs};
+ghost use Rattle.mpd_picture.specs.Pictures.{is_drawn};
 
 use crate::picture::{DrawFault, Picture, picture_of};
 use crate::places::{column_x, row_y, told_y, tracks_height};
@@ -132,9 +132,8 @@ fn svg_of(
 
 /// The drawing of the steps that are not undone, as SVG 1.1: the text of `picture_of`.
 pub fn draw(alloc: Global, debugger: &Debugger<'_>, look: Look) -> Result<String, DrawFault>
-    ensures few { IfOk result (λ svg. few (trail_glyphs debugger.now.trail) ≡ true) }
-    ensures too_long { IsErrOf result DrawFault.TooLong → few (trail_glyphs debugger.now.trail)
-        ≡ false }
+    ensures few { IfOk result (λ svg. is_drawn debugger.now.trail ≡ true) }
+    ensures too_long { IsErrOf result DrawFault.TooLong → is_drawn debugger.now.trail ≡ false }
 {
     let picture = picture_of(alloc, debugger)?;
     let svg = svg_of(alloc, debugger.core(), &picture, look)?;

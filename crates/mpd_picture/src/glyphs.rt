@@ -115,8 +115,7 @@ fn push_went_on(
     row: usize,
     rank: usize,
 ) -> Result<(), AllocError>
-    ensures { OnOk result (glyphs.new.items ≡ glyphs.old.items
-        ++ spec.went_on core.now.world.board row rank) }
+    ensures { OnOk result (glyphs.new.items ≡ glyphs.old.items ++ spec.went_on core.now.world.board row rank) }
 {
     let event = Event::WentOn(core.board().last_call(rank));
     add(glyphs, Glyph { row, event })
@@ -124,8 +123,7 @@ fn push_went_on(
 
 /// Adds that all ranks went on after their last calls.
 fn push_all_went_on(core: &Core<'_>, glyphs: &mut Vec<Glyph>, row: usize) -> Result<(), AllocError>
-    ensures { OnOk result (glyphs.new.items ≡ glyphs.old.items
-        ++ flat_map (spec.went_on core.now.world.board row) (rank_numbers core.now.world.board)) }
+    ensures { OnOk result (glyphs.new.items ≡ glyphs.old.items ++ flat_map (spec.went_on core.now.world.board row) (rank_numbers core.now.world.board)) }
 {
     let count = core.rank_count();
     for rank in 0..count {
@@ -159,8 +157,7 @@ fn push_local(
     row: usize,
     rank: usize,
 ) -> Result<(), AllocError>
-    ensures { OnOk result (glyphs.new.items ≡ glyphs.old.items
-        ++ spec.step_glyphs before core.now.world row (Step.Local rank)) }
+    ensures { OnOk result (glyphs.new.items ≡ glyphs.old.items ++ spec.step_glyphs before core.now.world row (Step.Local rank)) }
 {
     if !issues(core, before.calls, rank) {
         let deed = deed_of(core, before.printed, rank);
@@ -181,8 +178,7 @@ fn push_step_glyphs(
     row: usize,
     step: Step,
 ) -> Result<(), AllocError>
-    ensures { OnOk result (glyphs.new.items ≡ glyphs.old.items
-        ++ spec.step_glyphs before core.now.world row step) }
+    ensures { OnOk result (glyphs.new.items ≡ glyphs.old.items ++ spec.step_glyphs before core.now.world row step) }
 {
     match step {
         Step::Local(rank) => push_local(core, glyphs, before, row, rank),
@@ -217,19 +213,10 @@ fn take_next(
 ) -> Result<usize, AllocError>
     requires ahead { debugger.old.trail.depth < length debugger.old.trail.steps }
     requires few { row < 9223372036854775808 }
-    ensures glyphs { OnOk result ((step : Step)
-        → slice_get debugger.old.trail.steps debugger.old.trail.depth
-        ≡ Some step → glyphs.new.items ≡ glyphs.old.items
-        ++ spec.step_glyphs (spec.before_step debugger.old.trail.program.lines debugger.old.world
-        step) debugger.new.world row step) }
-    ensures row { IfOk result (λ behind. (step : Step)
-        → slice_get debugger.old.trail.steps debugger.old.trail.depth ≡ Some step → behind
-        ≡ spec.row_behind (spec.before_step debugger.old.trail.program.lines debugger.old.world
-        step) debugger.new.world row step) }
+    ensures glyphs { OnOk result ((step : Step) → slice_get debugger.old.trail.steps debugger.old.trail.depth ≡ Some step → glyphs.new.items ≡ glyphs.old.items ++ spec.step_glyphs (spec.before_step debugger.old.trail.program.lines debugger.old.world step) debugger.new.world row step) }
+    ensures row { IfOk result (λ behind. (step : Step) → slice_get debugger.old.trail.steps debugger.old.trail.depth ≡ Some step → behind ≡ spec.row_behind (spec.before_step debugger.old.trail.program.lines debugger.old.world step) debugger.new.world row step) }
     ensures few { IfOk result (λ behind. behind ≤ row + 1) }
-    ensures leads { OnOk result ((step : Step)
-        → slice_get debugger.old.trail.steps debugger.old.trail.depth
-        ≡ Some step → next debugger.old.world step ≡ Some debugger.new.world) }
+    ensures leads { OnOk result ((step : Step) → slice_get debugger.old.trail.steps debugger.old.trail.depth ≡ Some step → next debugger.old.world step ≡ Some debugger.new.world) }
     ensures trail { OnOk result (debugger.new.trail ≡ redone debugger.old.trail) }
 {
     let Some(step) = debugger.next_undone() else {
@@ -250,9 +237,7 @@ fn take_next(
 /// Takes all steps that are undone, and adds what they show.
 fn take_all(debugger: &mut Debugger<'_>, glyphs: &mut Vec<Glyph>) -> Result<(), AllocError>
     requires { debugger.old.trail.depth ≡ 0 }
-    ensures { OnOk result (glyphs.new.items ≡ glyphs.old.items
-        ++ spec.glyphs_behind debugger.old.trail.program.lines debugger.old.world 0
-        debugger.old.trail.steps) }
+    ensures { OnOk result (glyphs.new.items ≡ glyphs.old.items ++ spec.glyphs_behind debugger.old.trail.program.lines debugger.old.world 0 debugger.old.trail.steps) }
 {
     debugger.state_is_reached();
     let mut row = 0;
@@ -267,9 +252,7 @@ fn take_all(debugger: &mut Debugger<'_>, glyphs: &mut Vec<Glyph>) -> Result<(), 
 #[tactic(auto, using(crate::proofs::GlyphLemmas::going_back))]
 fn glyphs_again(alloc: Global, debugger: &mut Debugger<'_>) -> Result<Vec<Glyph>, AllocError>
     requires { length debugger.old.trail.steps ≡ debugger.old.trail.depth }
-    ensures { IfOk result (λ glyphs. glyphs.items
-        ≡ spec.glyphs_of debugger.old.trail.program debugger.old.trail.mode
-        (done_steps debugger.old.trail)) }
+    ensures { IfOk result (λ glyphs. glyphs.items ≡ spec.glyphs_of debugger.old.trail.program debugger.old.trail.mode (done_steps debugger.old.trail)) }
 {
     let mut glyphs = Vec::new(alloc);
     let _ = debugger.undo_to(0);
@@ -280,9 +263,7 @@ fn glyphs_again(alloc: Global, debugger: &mut Debugger<'_>) -> Result<Vec<Glyph>
 /// What the steps show that are not undone. `Err` means that memory was refused.
 #[tactic(auto, using(crate::proofs::GlyphLemmas::going_back))]
 pub(crate) fn glyphs_of(alloc: Global, debugger: &Debugger<'_>) -> Result<Vec<Glyph>, AllocError>
-    ensures { IfOk result (λ glyphs. glyphs.items
-        ≡ spec.glyphs_of debugger.now.trail.program debugger.now.trail.mode
-        (done_steps debugger.now.trail)) }
+    ensures { IfOk result (λ glyphs. glyphs.items ≡ spec.glyphs_of debugger.now.trail.program debugger.now.trail.mode (done_steps debugger.now.trail)) }
 {
     match debugger.copy() {
         Err(_) => Err(AllocError),

@@ -132,8 +132,7 @@ impl Rows {
 
     /// The row in which a call is issued, 0 if it isn't.
     fn row_of(&self, call: CallId) -> usize
-        ensures { (marks : List Mark) → table.IsTable self.now marks → result
-            ≡ spec.row_of marks call }
+        ensures { (marks : List Mark) → table.IsTable self.now marks → result ≡ spec.row_of marks call }
     {
         match issued_at(&self.issued, call) {
             Some(row) => row,
@@ -143,24 +142,21 @@ impl Rows {
 
     /// The first row below the marks of a rank.
     fn next_row(&self, rank: usize) -> usize
-        ensures { (marks : List Mark) → table.IsTable self.now marks → result
-            ≡ spec.next_row marks rank }
+        ensures { (marks : List Mark) → table.IsTable self.now marks → result ≡ spec.next_row marks rank }
     {
         larger(row_at(&self.nexts, rank), self.released)
     }
 
     /// The last row in which a send of a rank is matched.
     fn sent_row(&self, rank: usize) -> usize
-        ensures { (marks : List Mark) → table.IsTable self.now marks → result
-            ≡ spec.sent_row marks rank }
+        ensures { (marks : List Mark) → table.IsTable self.now marks → result ≡ spec.sent_row marks rank }
     {
         row_at(&self.sents, rank)
     }
 
     /// The row of what a step shows, after these marks.
     fn event_row(&self, event: Event) -> usize
-        ensures { (marks : List Mark) → table.IsTable self.now marks → result
-            ≡ spec.event_row marks event }
+        ensures { (marks : List Mark) → table.IsTable self.now marks → result ≡ spec.event_row marks event }
     {
         match event {
             Event::Issued(call) => self.next_row(call.rank),
@@ -245,8 +241,7 @@ impl Marks {
 /// Adds the mark of what a step shows. `Err` means that memory was refused.
 fn add_mark(marks: &mut Vec<Mark>, rows: &mut Rows, glyph: Glyph) -> Result<(), AllocError>
     requires { table.IsTable rows.old marks.old.items }
-    ensures marks { OnOk result (marks.new.items ≡ marks.old.items
-        ++ spec.mark_after marks.old.items glyph ∷ []) }
+    ensures marks { OnOk result (marks.new.items ≡ marks.old.items ++ spec.mark_after marks.old.items glyph ∷ []) }
     ensures rows { OnOk result (table.IsTable rows.new marks.new.items) }
 {
     let event = glyph.event;

@@ -82,12 +82,9 @@ fn drawn_of(
 /// The picture of the steps that are not undone. It is refused exactly if they show too much, or if
 /// memory is.
 pub fn picture_of(alloc: Global, debugger: &Debugger<'_>) -> Result<Picture, DrawFault>
-    ensures ok { IfOk result
-        (λ picture. spec.IsPicture debugger.now.trail.program debugger.now.world
-        debugger.now.trail.depth (spec.trail_glyphs debugger.now.trail) picture) }
-    ensures few { IfOk result (λ picture. spec.few (spec.trail_glyphs debugger.now.trail) ≡ true) }
-    ensures too_long { IsErrOf result DrawFault.TooLong
-        → spec.few (spec.trail_glyphs debugger.now.trail) ≡ false }
+    ensures ok { IfOk result (λ p. spec.IsPictureOf debugger.now.trail debugger.now.world p) }
+    ensures few { IfOk result (λ p. spec.is_drawn debugger.now.trail ≡ true) }
+    ensures too_long { IsErrOf result DrawFault.TooLong → spec.is_drawn debugger.now.trail ≡ false }
 {
     let glyphs = glyphs_of(alloc, debugger)?;
     if glyphs.len() > GLYPHS_MAX {
