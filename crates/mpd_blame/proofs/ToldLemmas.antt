@@ -1,7 +1,6 @@
--- Lines that are told one after another.
+-- What is known of leaves, one after another.
 use Rattle.std.proofs.Common.{◌≡◌, ℕ, zero, suc, ◌+◌, ◌<◌, List, [], ◌∷◌, ◌++◌, length, take, get_or, refl, subst, arith}
 use Rattle.std.specs.List.{AllZip}
-use Rattle.std.proofs.Common.{Global, String, map, string_bytes, ap, ◌∙◌}
 use Rattle.mpd_trail.specs.DebuggerViews.{DebuggerView, standing_of}
 
 -- the next of each list
@@ -14,13 +13,6 @@ zipped_next R (z ∷ xs) (v ∷ ys) (suc i) x y within at here h = (h.0, zipped_
 
 pub zipped_more : {A B : Type 0} (R : A → B → Type 0) (xs : List A) (ys : List B) (i : ℕ) (x : A) (y : B) → i < length xs → x ≡ get_or xs i x → R x y → AllZip R (take i xs) ys → AllZip R (take (i + 1) xs) (ys ++ y ∷ [])
 zipped_more R xs ys i x y within at here h = let next : suc i ≡ i + 1 = omega arith in subst (λ n. AllZip R (take n xs) (ys ++ y ∷ [])) next (zipped_next R xs ys i x y within at here h)
-
-pub lines_more : (old new : List (String Global)) (line : String Global) → new ≡ old ++ line ∷ [] → map string_bytes new ≡ map string_bytes old ++ string_bytes line ∷ []
-lines_more old new line is = ap (map string_bytes) is ∙ joined old
-  where
-    joined : (xs : List (String Global)) → map string_bytes (xs ++ line ∷ []) ≡ map string_bytes xs ++ string_bytes line ∷ []
-    joined [] = refl
-    joined (x ∷ xs) = ap (λ (l : List (List ℕ)). string_bytes x ∷ l) (joined xs)
 
 pub standing_same : (d e : DebuggerView) → e.trail ≡ d.trail → e.world ≡ d.world → standing_of e ≡ standing_of d
 standing_same d e trail world = λ i. record { trail = trail i; world = world i }

@@ -1,4 +1,2 @@
 pub mod Blame
-pub mod Words
-pub mod WordRows
 pub mod Told

@@ -4,8 +4,7 @@
 pub mod back;
 mod sight;
 pub mod told;
-pub mod words;
+mod words;
 
 pub use back::{Blame, Decided, blame_run};
-pub use told::{Told, blame_lines, blame_of_leaf};
-pub use words::push_blame;
+pub use told::{Deciding, PlacedBlame, blame_of_leaf, blames_of_leaves, place_blame};

@@ -21,9 +21,8 @@ use Rattle.mpd_runs.specs.Counts.{counts_of}
 use Rattle.mpd_runs.specs.Runs.{sees_all}
 use Rattle.mpd_runs.proofs.CountLemmas.{counts_are}
 use Rattle.mpd_diagnose.specs.declared.diagnosis.Diagnosis.{Diagnosis}
-use Rattle.mpd_diagnose.specs.Told.{ends_well}
 use Rattle.mpd_diagnose.specs.Diagnosed.{IsDiagnosis}
-use Rattle.mpd_diagnose.specs.Verdicts.{is_untidy, is_bad_if, verdict_of}
+use Rattle.mpd_diagnose.specs.Verdicts.{ends_well, is_untidy, is_bad_if, drawn_counts, verdict_of}
 use Rattle.mpd_meaning.proofs.listed.Members.{In, in_contains}
 use Rattle.mpd_complete.specs.Reported.{NoneIsCut, BoundsAllRuns}
 use Rattle.mpd_complete.specs.Told.{NoneEndsBadly}
@@ -62,29 +61,29 @@ all_taken fuel u runs more is none =
     take_all runs (leaves_from fuel u) (subst (λ (n : ℕ). n ≤ runs) (sym (length-map (wide_walk fuel u) shown)) (not_less runs (length (wide_walk fuel u)) (sym is ∙ none)))
 
 -- where the numbers of a diagnosis are of all runs, they are those of the leaves of the wide walk, of which none is cut
-pub taken_leaves : (script file : List ℕ) (ranks : Option ℕ) (limits : StateLimits) (most runs : ℕ) (s : Program) (mode : Mode) (told : Diagnosis) → IsDiagnosis script file ranks limits most runs (first_standing s mode) told
-    → sees_all told.counts ≡ true → (told.counts ≡ counts_of (leaves_from limits.fuel (start s mode)) false) × NoneIsCut (leaves_from limits.fuel (start s mode))
-taken_leaves script file ranks limits most runs s mode told h seen =
+pub taken_leaves : (limits : StateLimits) (most runs : ℕ) (s : Program) (mode : Mode) (told : Diagnosis) → IsDiagnosis limits most runs (first_standing s mode) told
+    → sees_all told.found.counts ≡ true → (told.found.counts ≡ counts_of (leaves_from limits.fuel (start s mode)) false) × NoneIsCut (leaves_from limits.fuel (start s mode))
+taken_leaves limits most runs s mode told h seen =
     let fuel : ℕ = limits.fuel in
     let u : World = start s mode in
-    let o = h.is_first.0 in
-    let t = h.is_first.1.0.told in
+    let o = told.found.outcomes in
+    let t = h.told.0.told in
     let all : List SearchLeaf = leaves_from fuel u in
     let ls : List SearchLeaf = take t.runs all in
     let more : Bool = o.firsts.more in
-    let are : told.counts ≡ counts_of ls more = h.is_first.2.counts_are ∙ counts_are fuel u o t _ _ _ _ _ refl refl refl refl refl in
+    let are : told.found.counts ≡ counts_of ls more = h.found.counts_are ∙ counts_are fuel u o t _ _ _ _ _ refl refl refl refl refl in
     let whole = sees_whole ls more (subst (λ (c : WayCounts). sees_all c ≡ true) are seen) in
     let taken : ls ≡ all = all_taken fuel u t.runs more t.more_is whole.0 in
     (are ∙ ap (counts_of ls) whole.0 ∙ ap (λ (leaves : List SearchLeaf). counts_of leaves false) taken, subst NoneIsCut taken whole.1)
 
-pub good_tells : (script file : List ℕ) (ranks : Option ℕ) (limits : StateLimits) (most runs : ℕ) (s : Program) (mode : Mode) (told : Diagnosis) (strict : Bool) → IsDiagnosis script file ranks limits most runs (first_standing s mode) told
-    → verdict_of strict told.counts told.drawn ≡ Good → NoneEndsBadly (start s mode) × BoundsAllRuns limits.fuel (start s mode)
-good_tells script file ranks limits most runs s mode told strict h good =
+pub good_tells : (limits : StateLimits) (most runs : ℕ) (s : Program) (mode : Mode) (told : Diagnosis) (strict : Bool) → IsDiagnosis limits most runs (first_standing s mode) told
+    → verdict_of strict told.found.counts (drawn_counts told.drawn) ≡ Good → NoneEndsBadly (start s mode) × BoundsAllRuns limits.fuel (start s mode)
+good_tells limits most runs s mode told strict h good =
     let fuel : ℕ = limits.fuel in
     let u : World = start s mode in
     let all : List SearchLeaf = leaves_from fuel u in
-    let both = judged (ends_well told.counts) (is_untidy strict told.counts) (is_bad_if strict told.drawn) (sees_all told.counts) good in
-    let t = taken_leaves script file ranks limits most runs s mode told h both.1 in
+    let both = judged (ends_well told.found.counts) (is_untidy strict told.found.counts) (is_bad_if strict (drawn_counts told.drawn)) (sees_all told.found.counts) good in
+    let t = taken_leaves limits most runs s mode told h both.1 in
     let well = both_true _ _ (subst (λ (c : WayCounts). ends_well c ≡ true) t.0 both.0) in
     let hangs : count_in Deadlock all ≡ 0 = is_none (count_in Deadlock all) well.0 in
     let traps : count_in Trap all ≡ 0 = is_none (count_in Trap all) well.1 in

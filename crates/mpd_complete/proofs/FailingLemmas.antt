@@ -30,7 +30,7 @@ use Rattle.mpd_blame.specs.declared.back.Blame.TheVariants.{At, FromStart}
 use Rattle.mpd_blame.specs.Blame.{ends_badly, is_doomed, IsBlame}
 use Rattle.mpd_diagnose.specs.declared.diagnosis.Diagnosis.{Diagnosis}
 use Rattle.mpd_diagnose.specs.Diagnosed.{IsDiagnosis}
-use Rattle.mpd_diagnose.specs.Told.{always_fails, always_hangs, always_traps}
+use Rattle.mpd_diagnose.specs.Verdicts.{always_fails, always_hangs, always_traps}
 use Rattle.mpd_meaning.proofs.listed.Members.{In, in_contains}
 use Rattle.mpd_complete.specs.CompleteLaws.{was_cut}
 use Rattle.mpd_complete.specs.Reported.{NoneIsCut, HaveAllOutcomes, BoundsAllRuns}
@@ -106,17 +106,17 @@ hangs_way w either trap = elim either [ inl is ↦ is | inr is ↦ let yes = ap 
 traps_way : (w : Way) → (w ≡ Deadlock) ⊎ (w ≡ Trap) → same_way Deadlock w ≡ false → w ≡ Trap
 traps_way w either hang = elim either [ inl is ↦ let yes = ap (same_way Deadlock) is in cc | inr is ↦ is ]
 
-pub failing_tells : (script file : List ℕ) (ranks : Option ℕ) (limits : StateLimits) (most runs : ℕ) (s : Program) (mode : Mode) (told : Diagnosis)
-    → IsDiagnosis script file ranks limits most runs (first_standing s mode) told → always_fails told.counts ≡ true
+pub failing_tells : (limits : StateLimits) (most runs : ℕ) (s : Program) (mode : Mode) (told : Diagnosis)
+    → IsDiagnosis limits most runs (first_standing s mode) told → always_fails told.found.counts ≡ true
     → AllEndBadly (start s mode) × BoundsAllRuns limits.fuel (start s mode)
-    × (always_hangs told.counts ≡ true → AllEndIn Deadlock (start s mode)) × (always_traps told.counts ≡ true → AllEndIn Trap (start s mode))
-failing_tells script file ranks limits most runs s mode told h fails =
+    × (always_hangs told.found.counts ≡ true → AllEndIn Deadlock (start s mode)) × (always_traps told.found.counts ≡ true → AllEndIn Trap (start s mode))
+failing_tells limits most runs s mode told h fails =
     let fuel : ℕ = limits.fuel in
     let u : World = start s mode in
     let all : List SearchLeaf = leaves_from fuel u in
     let seen = both_true _ _ fails in
     let both = both_true _ _ seen.0 in
-    let t = taken_leaves script file ranks limits most runs s mode told h both.0 in
+    let t = taken_leaves limits most runs s mode told h both.0 in
     let done : count_in Done all ≡ 0 = is_none (count_in Done all) (subst (λ (c : WayCounts). is_count 0 c.done ≡ true) t.0 both.1) in
     let left : count_in Leftovers all ≡ 0 = is_none (count_in Leftovers all) (subst (λ (c : WayCounts). is_count 0 c.leftovers ≡ true) t.0 seen.1) in
     let said = complete s mode [] u refl fuel in

@@ -4,7 +4,7 @@ use Rattle.mpd_model.specs.declared.call.Mode.{Mode}
 use Rattle.mpd_model.specs.declared.limits.TheConstants.{RANKS_MAX}
 use Rattle.mpd_model.specs.declared.step.Step.{Step}
 use Rattle.mpd_model.specs.script.Program.{Program}
-use Rattle.mpd_diagnose.specs.Told.{is_drawn}
+use Rattle.mpd_diagnose.specs.Verdicts.{is_drawn}
 use Rattle.mpd_picture.specs.Glyphs.{glyphs_of}
 use Rattle.mpd_picture.specs.Pictures.{few}
 

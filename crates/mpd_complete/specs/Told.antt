@@ -15,8 +15,7 @@ use Rattle.mpd_runs.specs.Ways.{way_of}
 use Rattle.mpd_outcomes.specs.declared.report.StateLimits.{StateLimits}
 use Rattle.mpd_diagnose.specs.declared.diagnosis.Diagnosis.{Diagnosis}
 use Rattle.mpd_diagnose.specs.Diagnosed.{IsDiagnosis}
-use Rattle.mpd_diagnose.specs.Told.{always_fails, always_hangs, always_traps}
-use Rattle.mpd_diagnose.specs.Verdicts.{verdict_of}
+use Rattle.mpd_diagnose.specs.Verdicts.{always_fails, always_hangs, always_traps, drawn_counts, verdict_of}
 use Rattle.mpd_blame.specs.declared.back.Decided.{Decided}
 use Rattle.mpd_blame.specs.declared.back.Blame.TheVariants.{At, FromStart}
 use Rattle.mpd_blame.specs.Blame.{IsBlame}
@@ -60,8 +59,8 @@ NoneEndsBadly u =
 -- Where the verdict on a diagnosis is good, that holds of all runs of the script.
 abbrev pub GoodDiagnosesAreOfAllRuns : Type 0
 GoodDiagnosesAreOfAllRuns =
-    (script file : List ℕ) (ranks : Option ℕ) (limits : StateLimits) (most runs : ℕ) (s : Program) (mode : Mode) (told : Diagnosis) (strict : Bool) → IsDiagnosis script file ranks limits most runs (first_standing s mode) told
-    → verdict_of strict told.counts told.drawn ≡ Good → NoneEndsBadly (start s mode) × BoundsAllRuns limits.fuel (start s mode)
+    (limits : StateLimits) (most runs : ℕ) (s : Program) (mode : Mode) (told : Diagnosis) (strict : Bool) → IsDiagnosis limits most runs (first_standing s mode) told
+    → verdict_of strict told.found.counts (drawn_counts told.drawn) ≡ Good → NoneEndsBadly (start s mode) × BoundsAllRuns limits.fuel (start s mode)
 
 -- every run from there that can't go on ends in this way
 abbrev pub AllEndIn : Way → World → Type 0
@@ -76,10 +75,10 @@ AllEndBadly u =
 -- Where the numbers of a diagnosis say that every run hangs or traps, it does, and where they say which of both.
 abbrev pub FailingDiagnosesAreOfAllRuns : Type 0
 FailingDiagnosesAreOfAllRuns =
-    (script file : List ℕ) (ranks : Option ℕ) (limits : StateLimits) (most runs : ℕ) (s : Program) (mode : Mode) (told : Diagnosis)
-    → IsDiagnosis script file ranks limits most runs (first_standing s mode) told → always_fails told.counts ≡ true
+    (limits : StateLimits) (most runs : ℕ) (s : Program) (mode : Mode) (told : Diagnosis)
+    → IsDiagnosis limits most runs (first_standing s mode) told → always_fails told.found.counts ≡ true
     → AllEndBadly (start s mode) × BoundsAllRuns limits.fuel (start s mode)
-    × (always_hangs told.counts ≡ true → AllEndIn Deadlock (start s mode)) × (always_traps told.counts ≡ true → AllEndIn Trap (start s mode))
+    × (always_hangs told.found.counts ≡ true → AllEndIn Deadlock (start s mode)) × (always_traps told.found.counts ≡ true → AllEndIn Trap (start s mode))
 
 -- After the step that decided how a run ends, each run ends badly, and so it does from the start where no step decided it.
 abbrev pub BlamesAreOfAllRuns : Type 0

@@ -1,2 +1,2 @@
-mod GroupLemmas
-mod StandLemmas
+pub mod StandLemmas
+pub mod AlikeLemmas

@@ -10,7 +10,7 @@ use Rattle.mpd_model.specs.steps.World.{World, RankWorld}
 use Rattle.mpd_model.specs.steps.Outcomes.{has_ended, no_statement, first_number, ended_by as doing_ended}
 use Rattle.mpd_names.specs.Placed.{statement_line, rank_line}
 use Rattle.mpd_names.specs.Stand.{stand, line_by, line_at, ended_by}
-use Rattle.mpd_diagnose.specs.Headings.{with_some, standing_line, with_standing}
+use Rattle.mpd_diagnose.specs.Causes.{with_some, standing_line, with_standing}
 
 -- ---- a rank that has ended has no statement left, and so no line
 

@@ -1,20 +1,36 @@
--- Ends that are told together, since they are called the same.
-use Rattle.std.specs.Prelude.{ℕ, Bool, true, false, not, nat_lt, ◌&&◌, ◌==◌, if◌then◌else◌, List, [], ◌∷◌, ◌++◌, Option, Some, None, length, map, slice_get, slice_index_or}
-use Rattle.std.specs.List.{filter, list_any, list_all, range_with_len}
-use Rattle.mpd_model.specs.declared.outcome.Outcome.TheVariants.{Leftovers, Deadlock, Trap}
-use Rattle.mpd_policy.specs.declared.ending.Ending.{Ending}
-use Rattle.mpd_policy.specs.declared.ending.Ending.TheVariants.{Ended, Cut}
-use Rattle.mpd_explore.specs.declared.report.SearchLeaf.{SearchLeaf}
-use Rattle.mpd_explore.specs.Report.{is_bad}
+-- Ends that are told together, since they are of the same kind and stand at the same lines.
+use Rattle.std.specs.Prelude.{ℕ, Bool, true, false, not, nat_lt, ◌&&◌, if◌then◌else◌, List, [], ◌∷◌, ◌++◌, Option, Some, None, length, map, slice_get, slice_index_or}
+use Rattle.std.specs.List.{filter, list_any, range_with_len}
 use Rattle.mpd_outcomes.specs.declared.report.Count.{Count}
 use Rattle.mpd_outcomes.specs.declared.report.Count.TheVariants.{Exactly}
 use Rattle.mpd_outcomes.specs.Outcomes.{plus}
-use Rattle.mpd_explain.specs.Told.{text_at, same_at, firsts}
+use Rattle.mpd_diagnose.specs.declared.along.LeafEnd.{LeafEnd}
+use Rattle.mpd_diagnose.specs.declared.cause.EndKind.{EndKind}
+use Rattle.mpd_diagnose.specs.declared.cause.EndKind.TheVariants as kind
 use Rattle.mpd_diagnose.specs.declared.groups.Group.{Group}
+use Rattle.mpd_diagnose.specs.Causes.{is_bad, same_cause, exceeds}
 
--- the numbers of the ends that are called so
-abbrev pub members : List (List ℕ) → List ℕ → List ℕ
-members headings text = filter (same_at headings text) (range_with_len 0 (length headings))
+-- ---- ends that are alike
+
+abbrev pub same_of : Option LeafEnd → Option LeafEnd → Bool
+same_of (Some e) (Some f) = same_cause e.cause f.cause
+same_of e f = false
+
+-- the ends of two numbers
+abbrev pub same_at : List LeafEnd → ℕ → ℕ → Bool
+same_at ends n m = same_of (slice_get ends n) (slice_get ends m)
+
+-- no end before the one of that number is as it is
+abbrev pub is_first : List LeafEnd → ℕ → Bool
+is_first ends n = not (list_any (same_at ends n) (range_with_len 0 n))
+
+-- the numbers of those that are as none before them
+abbrev pub firsts : List LeafEnd → List ℕ
+firsts ends = filter (is_first ends) (range_with_len 0 (length ends))
+
+-- the numbers of those that are as that of a number
+abbrev pub members : List LeafEnd → ℕ → List ℕ
+members ends n = filter (same_at ends n) (range_with_len 0 (length ends))
 
 -- the count of that number, 0 where there is none
 abbrev pub count_at : List Count → ℕ → Count
@@ -26,76 +42,62 @@ with_counts counts sum [] = sum
 with_counts counts sum (n ∷ ns) = with_counts counts (plus sum (count_at counts n)) ns
 
 -- the second number where its run has fewer steps, else the first
-abbrev pub shorter : List ℕ → ℕ → ℕ → ℕ
-shorter steps n m = if nat_lt (slice_index_or steps m 0) (slice_index_or steps n 0) then m else n
+abbrev pub steps_in : Option LeafEnd → ℕ
+steps_in None = 0
+steps_in (Some e) = e.steps
+
+abbrev pub steps_at : List LeafEnd → ℕ → ℕ
+steps_at ends n = steps_in (slice_get ends n)
+
+abbrev pub shorter : List LeafEnd → ℕ → ℕ → ℕ
+shorter ends n m = if nat_lt (steps_at ends m) (steps_at ends n) then m else n
 
 -- of a number and others the one whose run has the fewest steps, and of several such the first
-abbrev pub shortest : List ℕ → ℕ → List ℕ → ℕ
-shortest steps n [] = n
-shortest steps n (m ∷ ms) = shortest steps (shorter steps n m) ms
+abbrev pub shortest : List LeafEnd → ℕ → List ℕ → ℕ
+shortest ends n [] = n
+shortest ends n (m ∷ ms) = shortest ends (shorter ends n m) ms
 
--- what is told together with the end of number n, the first that is called so
-abbrev pub group_of : List (List ℕ) → List Count → List ℕ → ℕ → Group
-group_of headings counts steps n =
-    let ns = members headings (text_at (slice_get headings n)) in
-    let k = shortest steps n ns in
-    record { first = n; count = with_counts counts (Exactly 0) ns; shown = k; steps = slice_index_or steps k 0 }
+-- what is told together with the end of number n, the first of its kind
+abbrev pub group_of : List LeafEnd → List Count → ℕ → Group
+group_of ends counts n = record { first = n; count = with_counts counts (Exactly 0) (members ends n); shown = shortest ends n (members ends n) }
 
--- whether the end of a number is called anything
-abbrev pub is_told : List (List ℕ) → ℕ → Bool
-is_told headings n = nat_lt 0 (length (text_at (slice_get headings n)))
+-- whether an end is anything but that a run is done
+abbrev pub is_more : EndKind → Bool
+is_more kind.Done = false
+is_more other = true
 
--- the ends that are called anything, in the order of the first of each kind
-abbrev pub groups : List (List ℕ) → List Count → List ℕ → List Group
-groups headings counts steps = map (group_of headings counts steps) (filter (is_told headings) (firsts headings))
+abbrev pub is_told_of : Option LeafEnd → Bool
+is_told_of None = false
+is_told_of (Some e) = is_more e.cause.kind
+
+abbrev pub is_told : List LeafEnd → ℕ → Bool
+is_told ends n = is_told_of (slice_get ends n)
+
+-- the ends of which this is so, in the order of the first of each kind
+abbrev pub groups : List LeafEnd → List Count → List Group
+groups ends counts = map (group_of ends counts) (filter (is_told ends) (firsts ends))
 
 -- ---- their order
 
-abbrev pub is_bad_leaf : Option SearchLeaf → Bool
-is_bad_leaf None = false
-is_bad_leaf (Some l) = is_bad l.ending
+abbrev pub is_bad_end : Option LeafEnd → Bool
+is_bad_end None = false
+is_bad_end (Some e) = is_bad e.cause.kind
 
 -- whether ends that are told together are deadlocks or traps
-abbrev pub is_bad_at : List SearchLeaf → Group → Bool
-is_bad_at leaves g = is_bad_leaf (slice_get leaves g.first)
+abbrev pub is_bad_at : List LeafEnd → Group → Bool
+is_bad_at ends g = is_bad_end (slice_get ends g.first)
 
--- the lines at which the end of a number stands
-abbrev pub lines_in : Option (List ℕ) → List ℕ
-lines_in None = []
-lines_in (Some ls) = ls
-
-abbrev pub lines_at : List (List ℕ) → ℕ → List ℕ
-lines_at lines n = lines_in (slice_get lines n)
-
-abbrev pub is_one_of : List ℕ → ℕ → Bool
-is_one_of ls wanted = list_any (λ l. l == wanted) ls
-
-abbrev pub are_among : List ℕ → List ℕ → Bool
-are_among many few = list_all (is_one_of many) few
-
--- whether some lines are all among others, and not all of those among them
-abbrev pub is_less : List ℕ → List ℕ → Bool
-is_less few many = are_among many few && not (are_among few many)
-
--- whether two runs end in the same kind of way
-abbrev pub same_kind : Ending → Ending → Bool
-same_kind (Ended (Deadlock cs)) (Ended (Deadlock ds)) = true
-same_kind (Ended (Trap ts)) (Ended (Trap us)) = true
-same_kind (Ended (Leftovers cs)) (Ended (Leftovers ds)) = true
-same_kind Cut Cut = true
-same_kind e f = false
-
-abbrev pub same_kind_of : Option SearchLeaf → Option SearchLeaf → Bool
-same_kind_of (Some l) (Some k) = same_kind l.ending k.ending
-same_kind_of l k = false
+abbrev pub exceeds_of : Option LeafEnd → Option LeafEnd → Bool
+exceeds_of (Some e) (Some f) = exceeds e.cause f.cause
+exceeds_of e f = false
 
 -- whether ends stand at all lines of others of their kind, and at more
-abbrev pub exceeds : List SearchLeaf → List (List ℕ) → Group → Group → Bool
-exceeds leaves lines g h = same_kind_of (slice_get leaves g.first) (slice_get leaves h.first) && is_less (lines_at lines h.first) (lines_at lines g.first)
+abbrev pub exceeds_at : List LeafEnd → Group → Group → Bool
+exceeds_at ends g h = exceeds_of (slice_get ends g.first) (slice_get ends h.first)
 
 -- whether they do so of any of those that are told
-abbrev pub is_wide : List SearchLeaf → List (List ℕ) → List Group → Group → Bool
-is_wide leaves lines gs g = list_any (exceeds leaves lines g) gs
+abbrev pub is_wide : List LeafEnd → List Group → Group → Bool
+is_wide ends gs g = list_any (exceeds_at ends g) gs
 
 -- whether something is so, or whether it isn't
 abbrev pub is_so : Bool → Bool → Bool
@@ -103,9 +105,12 @@ is_so true b = b
 is_so false b = not b
 
 -- whether they are deadlocks or traps or neither, and whether they stand at all lines of others and at more or not
-abbrev pub is_of : Bool → Bool → List SearchLeaf → List (List ℕ) → List Group → Group → Bool
-is_of bad wide leaves lines gs g = is_so bad (is_bad_at leaves g) && is_so wide (is_wide leaves lines gs g)
+abbrev pub is_of : Bool → Bool → List LeafEnd → List Group → Group → Bool
+is_of bad wide ends gs g = is_so bad (is_bad_at ends g) && is_so wide (is_wide ends gs g)
 
 -- deadlocks and traps, and then others; of each those that stand at all lines of others and at more come last
-abbrev pub bad_first : List SearchLeaf → List (List ℕ) → List Group → List Group
-bad_first leaves lines gs = filter (is_of true false leaves lines gs) gs ++ filter (is_of true true leaves lines gs) gs ++ filter (is_of false false leaves lines gs) gs ++ filter (is_of false true leaves lines gs) gs
+abbrev pub bad_first : List LeafEnd → List Group → List Group
+bad_first ends gs = filter (is_of true false ends gs) gs ++ filter (is_of true true ends gs) gs ++ filter (is_of false false ends gs) gs ++ filter (is_of false true ends gs) gs
+
+abbrev pub groups_of : List LeafEnd → List Count → List Group
+groups_of ends counts = bad_first ends (groups ends counts)

@@ -1,11 +1,5 @@
-pub mod Headings
+pub mod Causes
 pub mod Groups
-pub mod Hints
-pub mod Details
-pub mod Words
-pub mod Commands
-pub mod Told
-pub mod Brief
 pub mod Verdicts
 pub mod Diagnosed
 pub mod Modes

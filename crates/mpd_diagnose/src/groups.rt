@@ -1,39 +1,37 @@
 //! Ends that are told together, since they are of the same kind and stand at the same lines.
 
-ghost use Rattle.std.specs.Prelude.{◌≡◌, ◌++◌, ◌∷◌, [], if◌then◌else◌, IfOk, OnOk, map, slice_get, string_bytes};
-ghost use Rattle.std.specs.List.{filter};
+ghost use Rattle.std.specs.Prelude.{◌≡◌, ◌++◌, ◌∷◌, [], if◌then◌else◌, IfOk, OnOk, map, slice_get};
+ghost use Rattle.std.specs.List.{filter, list_any};
 ghost use Rattle.mpd_outcomes.specs.declared.report.Count.TheVariants as count_is;
-ghost use Rattle.mpd_explain.specs.Told.{same_at};
 ghost use Rattle.mpd_diagnose.specs.Groups as spec;
 
-use crate::heading::LineList;
-use mpd_explain::{firsts, text_at};
-use mpd_explore::{Ending, SearchLeaf};
-use mpd_model::Outcome;
+use crate::along::LeafEnd;
+use crate::cause::EndKind;
 use mpd_outcomes::Count;
 use std::alloc::{AllocError, Global};
 
-/// Ends that are told together.
+/// Ends that are told together. Ends are told by their numbers, from 0.
 #[derive(Clone, Copy)]
-pub(crate) struct Group {
-    /// The number of the first of them.
-    pub(crate) first: usize,
+pub struct Group {
+    /// The first of them.
+    pub first: usize,
     /// How many runs end so.
-    pub(crate) count: Count,
-    /// The number of the one that is explained.
-    pub(crate) shown: usize,
-    /// How many steps the run of that one has.
-    pub(crate) steps: usize,
+    pub count: Count,
+    /// The one that is shown: that of a run with the fewest steps.
+    pub shown: usize,
 }
 
-/// Whether the end of a number is called so.
-fn is_called(headings: &[String], text: &str, number: usize) -> bool
-    ensures { result ≡ same_at (map string_bytes headings.now) text.now number }
+/// Whether the ends of two numbers are of one kind, and stand at the same lines.
+fn same_at(ends: &[LeafEnd], one: usize, other: usize) -> bool
+    ensures { result ≡ spec.same_at ends.now one other }
 {
-    text == text_at(headings, number)
+    match (ends.get(one), ends.get(other)) {
+        (Some(one), Some(other)) => one.cause.is_same(&other.cause),
+        _ => false,
+    }
 }
 
-/// Adds a number, where it is chosen.
+/// Adds a number, if it is chosen.
 fn push_if(numbers: &mut Vec<usize>, number: usize, is_chosen: bool) -> Result<(), AllocError>
     ensures { OnOk result (numbers.new.items ≡ numbers.old.items ++ (if is_chosen then number ∷ [] else [])) }
 {
@@ -43,14 +41,35 @@ fn push_if(numbers: &mut Vec<usize>, number: usize, is_chosen: bool) -> Result<(
     Ok(())
 }
 
-/// The numbers of the ends that are called so.
-fn members(alloc: Global, headings: &[String], text: &str) -> Result<Vec<usize>, AllocError>
-    ensures { IfOk result (λ ns. ns.items ≡ spec.members (map string_bytes headings.now) text.now) }
+/// Whether the end of a number is as that of one of some numbers.
+fn is_known(ends: &[LeafEnd], numbers: &[usize], number: usize) -> bool
+    ensures { result ≡ list_any (spec.same_at ends.now number) numbers.now }
+{
+    numbers.iter().any(|known| same_at(ends, number, *known))
+}
+
+/// The numbers of the ends that are as none before them. Each is compared with those that were
+/// found, and with no others.
+fn firsts(alloc: Global, ends: &[LeafEnd]) -> Result<Vec<usize>, AllocError>
+    ensures { IfOk result (λ numbers. numbers.items ≡ spec.firsts ends.now) }
 {
     let mut numbers = Vec::new(alloc);
-    let count = headings.len();
+    let count = ends.len();
     for number in 0..count {
-        push_if(&mut numbers, number, is_called(headings, text, number))?;
+        let is_known = is_known(ends, &numbers, number);
+        push_if(&mut numbers, number, !is_known)?;
+    }
+    Ok(numbers)
+}
+
+/// The numbers of the ends that are as this one.
+fn members(alloc: Global, ends: &[LeafEnd], number: usize) -> Result<Vec<usize>, AllocError>
+    ensures { IfOk result (λ numbers. numbers.items ≡ spec.members ends.now number) }
+{
+    let mut numbers = Vec::new(alloc);
+    let count = ends.len();
+    for other in 0..count {
+        push_if(&mut numbers, other, same_at(ends, number, other))?;
     }
     Ok(numbers)
 }
@@ -67,22 +86,34 @@ fn count_of(counts: &[Count], numbers: &[usize]) -> Count
     sum
 }
 
-/// The second of two numbers where its run has fewer steps, else the first.
-fn shorter(steps: &[usize], one: usize, other: usize) -> usize
-    ensures { result ≡ spec.shorter steps.now one other }
+/// How many steps the run of the end of a number has; none if there is no such end.
+fn steps_at(ends: &[LeafEnd], number: usize) -> usize
+    ensures { result ≡ spec.steps_in (slice_get ends.now number) }
 {
-    let has = steps.get(one).copied().unwrap_or(0);
-    let other_has = steps.get(other).copied().unwrap_or(0);
-    if other_has < has { other } else { one }
+    match ends.get(number) {
+        None => 0,
+        Some(end) => end.steps,
+    }
+}
+
+/// The second of two numbers if its run has fewer steps, else the first.
+fn shorter(ends: &[LeafEnd], one: usize, other: usize) -> usize
+    ensures { result ≡ spec.shorter ends.now one other }
+{
+    if steps_at(ends, other) < steps_at(ends, one) {
+        other
+    } else {
+        one
+    }
 }
 
 /// Of a number and others the one whose run has the fewest steps, and of several such the first.
-fn shortest(steps: &[usize], number: usize, others: &[usize]) -> usize
-    ensures { result ≡ spec.shortest steps.now number others.now }
+fn shortest(ends: &[LeafEnd], number: usize, others: &[usize]) -> usize
+    ensures { result ≡ spec.shortest ends.now number others.now }
 {
     let mut shown = number;
     for other in others {
-        shown = shorter(steps, shown, *other);
+        shown = shorter(ends, shown, *other);
     }
     shown
 }
@@ -90,30 +121,37 @@ fn shortest(steps: &[usize], number: usize, others: &[usize]) -> usize
 /// What is told together with the end of this number.
 fn group_of(
     alloc: Global,
-    headings: &[String],
+    ends: &[LeafEnd],
     counts: &[Count],
-    steps: &[usize],
     number: usize,
 ) -> Result<Group, AllocError>
-    ensures { IfOk result (λ g. g ≡ spec.group_of (map string_bytes headings.now) counts.now steps.now number) }
+    ensures { IfOk result (λ group. group ≡ spec.group_of ends.now counts.now number) }
 {
-    let numbers = members(alloc, headings, text_at(headings, number))?;
-    let shown = shortest(steps, number, &numbers);
+    let numbers = members(alloc, ends, number)?;
     Ok(Group {
         first: number,
         count: count_of(counts, &numbers),
-        shown,
-        steps: steps.get(shown).copied().unwrap_or(0),
+        shown: shortest(ends, number, &numbers),
     })
 }
 
-/// Of some numbers those whose ends are called anything.
-fn told(alloc: Global, headings: &[String], numbers: &[usize]) -> Result<Vec<usize>, AllocError>
-    ensures { IfOk result (λ ns. ns.items ≡ filter (spec.is_told (map string_bytes headings.now)) numbers.now) }
+/// Whether the end of a number is anything but that a run is done.
+fn is_told(ends: &[LeafEnd], number: usize) -> bool
+    ensures { result ≡ spec.is_told ends.now number }
+{
+    match ends.get(number) {
+        None => false,
+        Some(end) => !matches!(end.cause.kind, EndKind::Done),
+    }
+}
+
+/// Those of some numbers of which this is so.
+fn told(alloc: Global, ends: &[LeafEnd], numbers: &[usize]) -> Result<Vec<usize>, AllocError>
+    ensures { IfOk result (λ ns. ns.items ≡ filter (spec.is_told ends.now) numbers.now) }
 {
     let mut chosen = Vec::new(alloc);
     for number in numbers {
-        push_if(&mut chosen, *number, !text_at(headings, *number).is_empty())?;
+        push_if(&mut chosen, *number, is_told(ends, *number))?;
     }
     Ok(chosen)
 }
@@ -121,49 +159,33 @@ fn told(alloc: Global, headings: &[String], numbers: &[usize]) -> Result<Vec<usi
 /// What is told together with the ends of these numbers, each the first of its kind.
 fn groups_by(
     alloc: Global,
-    headings: &[String],
+    ends: &[LeafEnd],
     counts: &[Count],
-    steps: &[usize],
     numbers: &[usize],
 ) -> Result<Vec<Group>, AllocError>
-    ensures { IfOk result (λ gs. gs.items ≡ map (spec.group_of (map string_bytes headings.now) counts.now steps.now) numbers.now) }
+    ensures { IfOk result (λ groups. groups.items ≡ map (spec.group_of ends.now counts.now) numbers.now) }
 {
     let mut groups = Vec::new(alloc);
     for number in numbers {
-        let group = group_of(alloc, headings, counts, steps, *number)?;
+        let group = group_of(alloc, ends, counts, *number)?;
         groups.push(group)?;
     }
     Ok(groups)
 }
 
-/// The ends of runs, by what they are called, how many runs end so, and how many steps the first run of each has: those that are called the
-/// same together, in the order of the first of each kind. What is called nothing is left out.
-pub(crate) fn groups_of(
-    alloc: Global,
-    headings: &[String],
-    counts: &[Count],
-    steps: &[usize],
-) -> Result<Vec<Group>, AllocError>
-    ensures { IfOk result (λ gs. gs.items ≡ spec.groups (map string_bytes headings.now) counts.now steps.now) }
-{
-    let kinds = firsts(alloc, headings)?;
-    let numbers = told(alloc, headings, &kinds)?;
-    groups_by(alloc, headings, counts, steps, &numbers)
-}
-
 // ---- their order
 
 /// Whether ends that are told together are deadlocks or traps.
-fn is_bad_group(leaves: &[SearchLeaf], group: Group) -> bool
-    ensures { result ≡ spec.is_bad_at leaves.now group }
+fn is_bad_group(ends: &[LeafEnd], group: Group) -> bool
+    ensures { result ≡ spec.is_bad_at ends.now group }
 {
-    match leaves.get(group.first) {
+    match ends.get(group.first) {
         None => false,
-        Some(leaf) => leaf.is_bad(),
+        Some(end) => end.cause.kind.is_bad(),
     }
 }
 
-/// Adds what is told together, where it is chosen.
+/// Adds what is told together, if it is chosen.
 fn push_group_if(chosen: &mut Vec<Group>, group: Group, is_chosen: bool) -> Result<(), AllocError>
     ensures { OnOk result (chosen.new.items ≡ chosen.old.items ++ (if is_chosen then group ∷ [] else [])) }
 {
@@ -173,145 +195,83 @@ fn push_group_if(chosen: &mut Vec<Group>, group: Group, is_chosen: bool) -> Resu
     Ok(())
 }
 
-/// The lines at which the end of a number stands; none where there is no such end.
-fn lines_at(lines: &[LineList], number: usize) -> &[usize]
-    ensures { result.now ≡ spec.lines_at lines.now number }
-{
-    match lines.get(number) {
-        None => &[],
-        Some(list) => &list.items,
-    }
-}
-
-/// Whether a line is one of these.
-fn is_one_of(lines: &[usize], wanted: usize) -> bool
-    ensures { result ≡ spec.is_one_of lines.now wanted }
-{
-    lines.iter().any(|line| *line == wanted)
-}
-
-/// Whether all of some lines are among others.
-fn are_among(many: &[usize], few: &[usize]) -> bool
-    ensures { result ≡ spec.are_among many.now few.now }
-{
-    few.iter().all(|line| is_one_of(many, *line))
-}
-
-/// Whether some lines are all among others, and not all of those among them.
-fn is_less(few: &[usize], many: &[usize]) -> bool
-    ensures { result ≡ spec.is_less few.now many.now }
-{
-    are_among(many, few) && !are_among(few, many)
-}
-
-/// Whether two runs end in the same kind of way.
-fn same_kind(one: &Ending, other: &Ending) -> bool
-    ensures { result ≡ spec.same_kind one.now other.now }
-{
-    match (one, other) {
-        (Ending::Ended(Outcome::Deadlock(_)), Ending::Ended(Outcome::Deadlock(_))) => true,
-        (Ending::Ended(Outcome::Trap(_)), Ending::Ended(Outcome::Trap(_))) => true,
-        (Ending::Ended(Outcome::Leftovers(_)), Ending::Ended(Outcome::Leftovers(_))) => true,
-        (Ending::Cut, Ending::Cut) => true,
-        _ => false,
-    }
-}
-
-/// Whether the runs of the leaves of two numbers do.
-fn same_kind_at(leaves: &[SearchLeaf], one: usize, other: usize) -> bool
-    ensures { result ≡ spec.same_kind_of (slice_get leaves.now one) (slice_get leaves.now other) }
-{
-    match (leaves.get(one), leaves.get(other)) {
-        (Some(one), Some(other)) => same_kind(&one.ending, &other.ending),
-        _ => false,
-    }
-}
-
 /// Whether ends that are told together stand at all lines of others of their kind, and at more.
-fn exceeds(leaves: &[SearchLeaf], lines: &[LineList], group: Group, other: Group) -> bool
-    ensures { result ≡ spec.exceeds leaves.now lines.now group other }
+fn exceeds(ends: &[LeafEnd], group: Group, other: Group) -> bool
+    ensures { result ≡ spec.exceeds_at ends.now group other }
 {
-    let few = lines_at(lines, other.first);
-    let many = lines_at(lines, group.first);
-    same_kind_at(leaves, group.first, other.first) && is_less(few, many)
+    match (ends.get(group.first), ends.get(other.first)) {
+        (Some(one), Some(two)) => one.cause.exceeds(&two.cause),
+        _ => false,
+    }
 }
 
 /// Whether they do so of any of those that are told.
-fn is_wide(leaves: &[SearchLeaf], lines: &[LineList], groups: &[Group], group: Group) -> bool
-    ensures { result ≡ spec.is_wide leaves.now lines.now groups.now group }
+fn is_wide(ends: &[LeafEnd], groups: &[Group], group: Group) -> bool
+    ensures { result ≡ spec.is_wide ends.now groups.now group }
 {
-    groups
-        .iter()
-        .any(|other| exceeds(leaves, lines, group, *other))
+    groups.iter().any(|other| exceeds(ends, group, *other))
 }
 
-/// Which groups are meant: deadlocks and traps or others, and of these those that stand at all lines of others and at more, or those that
-/// don't.
+/// Which groups are meant: deadlocks and traps or others, and of these those that stand at all lines
+/// of others and at more, or those that don't.
 #[derive(Clone, Copy)]
-struct Kind {
+struct Part {
     bad: bool,
     wide: bool,
 }
 
 /// Whether a group is meant.
-fn is_of(
-    kind: Kind,
-    leaves: &[SearchLeaf],
-    lines: &[LineList],
-    groups: &[Group],
-    group: Group,
-) -> bool
-    ensures { result ≡ spec.is_of kind.bad kind.wide leaves.now lines.now groups.now group }
+fn is_of(part: Part, ends: &[LeafEnd], groups: &[Group], group: Group) -> bool
+    ensures { result ≡ spec.is_of part.bad part.wide ends.now groups.now group }
 {
-    is_bad_group(leaves, group) == kind.bad && is_wide(leaves, lines, groups, group) == kind.wide
+    is_bad_group(ends, group) == part.bad && is_wide(ends, groups, group) == part.wide
 }
 
 /// Adds those groups that are meant.
 fn push_those(
     chosen: &mut Vec<Group>,
-    leaves: &[SearchLeaf],
-    lines: &[LineList],
+    ends: &[LeafEnd],
     groups: &[Group],
-    kind: Kind,
+    part: Part,
 ) -> Result<(), AllocError>
-    ensures { OnOk result (chosen.new.items ≡ chosen.old.items ++ filter (spec.is_of kind.bad kind.wide leaves.now lines.now groups.now) groups.now) }
+    ensures { OnOk result (chosen.new.items ≡ chosen.old.items ++ filter (spec.is_of part.bad part.wide ends.now groups.now) groups.now) }
 {
     for group in groups {
-        push_group_if(chosen, *group, is_of(kind, leaves, lines, groups, *group))?;
+        push_group_if(chosen, *group, is_of(part, ends, groups, *group))?;
     }
     Ok(())
 }
 
-/// The groups, those that are deadlocks or traps before all others; of each those that stand at all lines of others and at more come last.
-pub(crate) fn bad_first(
-    alloc: Global,
-    leaves: &[SearchLeaf],
-    lines: &[LineList],
-    groups: &[Group],
-) -> Result<Vec<Group>, AllocError>
-    ensures { IfOk result (λ gs. gs.items ≡ spec.bad_first leaves.now lines.now groups.now) }
+/// Groups, those that are deadlocks or traps before all others; of each those that stand at all
+/// lines of others and at more come last.
+fn bad_first(alloc: Global, ends: &[LeafEnd], groups: &[Group]) -> Result<Vec<Group>, AllocError>
+    ensures { IfOk result (λ ordered. ordered.items ≡ spec.bad_first ends.now groups.now) }
 {
     let mut ordered = Vec::new(alloc);
-    let hard = Kind {
+    let hard = Part {
         bad: true,
         wide: false,
     };
-    let soft = Kind { bad: false, ..hard };
-    push_those(&mut ordered, leaves, lines, groups, hard)?;
-    push_those(
-        &mut ordered,
-        leaves,
-        lines,
-        groups,
-        Kind { wide: true, ..hard },
-    )?;
-    push_those(&mut ordered, leaves, lines, groups, soft)?;
-    push_those(
-        &mut ordered,
-        leaves,
-        lines,
-        groups,
-        Kind { wide: true, ..soft },
-    )?;
+    let soft = Part { bad: false, ..hard };
+    push_those(&mut ordered, ends, groups, hard)?;
+    push_those(&mut ordered, ends, groups, Part { wide: true, ..hard })?;
+    push_those(&mut ordered, ends, groups, soft)?;
+    push_those(&mut ordered, ends, groups, Part { wide: true, ..soft })?;
     Ok(ordered)
+}
+
+/// Ends by their kind and lines, with how many runs end so: those that are alike together, in the
+/// order of the first of each, but deadlocks and traps before all others, and of each those that
+/// stand at all lines of others and at more last. Runs that are done are left out.
+pub(crate) fn groups_of(
+    alloc: Global,
+    ends: &[LeafEnd],
+    counts: &[Count],
+) -> Result<Vec<Group>, AllocError>
+    ensures { IfOk result (λ groups. groups.items ≡ spec.groups_of ends.now counts.now) }
+{
+    let kinds = firsts(alloc, ends)?;
+    let numbers = told(alloc, ends, &kinds)?;
+    let groups = groups_by(alloc, ends, counts, &numbers)?;
+    bad_first(alloc, ends, &groups)
 }

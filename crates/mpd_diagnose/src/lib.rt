@@ -1,23 +1,27 @@
 //! Whether the runs of a script can hang or trap, how, and where that was decided (docs/FORMATS.md, "Diagnosis").
 #![tactic(auto)]
 
-mod along;
+pub mod along;
 mod brief;
+pub mod cause;
 mod commands;
-mod details;
-mod diagnosis;
-mod groups;
-mod heading;
-mod hint;
+pub mod diagnosis;
+pub mod groups;
 mod modes;
 mod told;
-mod verdict;
+pub mod verdict;
 mod words;
 
-pub use brief::ranks_line;
+pub use along::LeafEnd;
+pub use brief::{mode_line, ranks_line};
+pub use cause::{Cause, EndKind, LineList};
 pub use commands::full_command;
-pub use diagnosis::{Diagnosis, DiagnosisPlan, diagnose};
-pub use modes::{
-    ModeTold, ScriptInModes, closing_of, diagnose_mode, first_of, modes_up_to, worst_of,
+pub use diagnosis::{Diagnosis, DiagnosisPlan, Runs, diagnose};
+pub use groups::Group;
+pub use modes::{ScriptInModes, closing_of, first_of, modes_up_to, worst_of};
+pub use told::{diagnosis_text, push_verdict};
+pub use verdict::{
+    always_fails, always_hangs, always_traps, drawn_counts, draws, ends_well, fails_both, leaves,
+    verdict_of,
 };
-pub use verdict::verdict_of;
+pub use words::Named;

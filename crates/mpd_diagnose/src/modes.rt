@@ -1,18 +1,12 @@
 //! Modes that are diagnosed in turn, and what their verdicts come to (docs/FORMATS.md, "Several modes").
 
-ghost use Rattle.std.specs.Prelude.{◌≡◌, ◌≤◌, ◌++◌, ◌∷◌, [], IfOk, OnOk, string_bytes};
-ghost use Rattle.std.specs.List.{flat_map};
-ghost use Rattle.mpd_model.specs.runs.Trail.{first_standing};
+ghost use Rattle.std.specs.Prelude.{◌≡◌, ◌++◌, ◌∷◌, [], IfOk, OnOk};
 ghost use Rattle.mpd_diagnose.specs.Modes as spec;
 
-use crate::brief::mode_line;
 use crate::commands::full_command;
-use crate::diagnosis::{DiagnosisPlan, diagnose};
 use crate::told::push_in_mode;
-use crate::verdict::{leaves, verdict_of};
-use mpd_code::Subject;
 use mpd_lines::{Verdict, push_folded};
-use mpd_model::{Mode, STEPS_MAX};
+use mpd_model::Mode;
 use std::alloc::{AllocError, Global};
 
 /// The modes that are tried up to so many slots: rendezvous, `slots:1` and more, and buffered. An `Err` is want of memory.
@@ -42,41 +36,6 @@ fn push_slots(modes: &mut Vec<Mode>, most: usize) -> Result<(), AllocError>
         push_mode(modes, Mode::Slots(before + 1))?;
     }
     Ok(())
-}
-
-/// What is told of a mode: its line, its verdict, and whether a run ends with calls left over.
-#[derive(Drop)]
-pub struct ModeTold {
-    /// The line.
-    pub line: Vec<u8>,
-    /// The verdict.
-    pub verdict: Verdict,
-    /// Whether a run ends with calls left over.
-    pub leaves: bool,
-}
-
-/// Diagnoses a script in a mode, and tells what its runs come to by a line; its verdict is that of the diagnosis, `strict` or not. An `Err`
-/// is want of memory. The fuel is at most 1,000,000 steps.
-pub fn diagnose_mode(
-    alloc: Global,
-    subject: Subject<'_>,
-    plan: DiagnosisPlan<'_>,
-    strict: bool,
-) -> Result<ModeTold, AllocError>
-    requires { plan.limits.fuel ≤ STEPS_MAX }
-    ensures { IfOk result (spec.IsModeTold plan.entry.script.now plan.entry.file.now plan.entry.ranks plan.entry.limits plan.entry.blamed plan.entry.drawn strict (first_standing subject.entry.code.now.program subject.entry.mode) subject.entry.mode) }
-{
-    let mode = subject.mode;
-    let told = diagnose(alloc, subject, plan)?;
-    let line = mode_line(alloc, mode, &told)?;
-    let verdict = verdict_of(&told, strict);
-    let leaves = leaves(&told);
-    drop(told);
-    Ok(ModeTold {
-        line,
-        verdict,
-        leaves,
-    })
 }
 
 /// Whether a verdict is this one.
@@ -186,9 +145,7 @@ fn noticed(
 }
 
 /// Adds the modes after the first.
-fn push_further_modes(out: &mut String, modes: &[Mode]) -> Result<(), AllocError>
-    ensures { OnOk result (string_bytes out.new ≡ string_bytes out.old ++ flat_map spec.further_mode modes.now) }
-{
+fn push_further_modes(out: &mut String, modes: &[Mode]) -> Result<(), AllocError> {
     for mode in modes {
         write!(out, ", {mode}")?;
     }
@@ -196,9 +153,7 @@ fn push_further_modes(out: &mut String, modes: &[Mode]) -> Result<(), AllocError
 }
 
 /// Adds some modes.
-fn push_in_modes(out: &mut String, modes: &[Mode]) -> Result<(), AllocError>
-    ensures { OnOk result (string_bytes out.new ≡ string_bytes out.old ++ spec.in_modes modes.now) }
-{
+fn push_in_modes(out: &mut String, modes: &[Mode]) -> Result<(), AllocError> {
     match modes {
         [] => Ok(()),
         [mode, further @ ..] => {
@@ -209,9 +164,7 @@ fn push_in_modes(out: &mut String, modes: &[Mode]) -> Result<(), AllocError>
 }
 
 /// Adds a line of some modes, where there are some.
-fn push_modes_line(out: &mut String, before: &str, modes: &[Mode]) -> Result<(), AllocError>
-    ensures { OnOk result (string_bytes out.new ≡ string_bytes out.old ++ spec.modes_line before.now modes.now) }
-{
+fn push_modes_line(out: &mut String, before: &str, modes: &[Mode]) -> Result<(), AllocError> {
     if modes.is_empty() {
         return Ok(());
     }
@@ -221,9 +174,7 @@ fn push_modes_line(out: &mut String, before: &str, modes: &[Mode]) -> Result<(),
 }
 
 /// That all modes are good, and in which of them calls can be left over.
-fn all_good(alloc: Global, left: &[Mode]) -> Result<String, AllocError>
-    ensures { IfOk result (λ t. string_bytes t ≡ spec.all_good left.now) }
-{
+fn all_good(alloc: Global, left: &[Mode]) -> Result<String, AllocError> {
     let mut out = String::new(alloc);
     out.push_str("no run hangs or traps in any of these modes\n")?;
     push_modes_line(&mut out, "calls can be left over", left)?;
@@ -231,9 +182,7 @@ fn all_good(alloc: Global, left: &[Mode]) -> Result<String, AllocError>
 }
 
 /// That nothing bad was found, and which modes aren't whole.
-fn not_all_tried(alloc: Global, modes: &[Mode]) -> Result<String, AllocError>
-    ensures { IfOk result (λ t. string_bytes t ≡ spec.not_all_tried modes.now) }
-{
+fn not_all_tried(alloc: Global, modes: &[Mode]) -> Result<String, AllocError> {
     let mut out = String::new(alloc);
     push_modes_line(
         &mut out,
@@ -244,9 +193,7 @@ fn not_all_tried(alloc: Global, modes: &[Mode]) -> Result<String, AllocError>
 }
 
 /// What is said of these modes, by what all verdicts come to.
-fn said_of(alloc: Global, worst: Verdict, modes: &[Mode]) -> Result<String, AllocError>
-    ensures { IfOk result (λ t. string_bytes t ≡ spec.said_of worst modes.now) }
-{
+fn said_of(alloc: Global, worst: Verdict, modes: &[Mode]) -> Result<String, AllocError> {
     match worst {
         Verdict::Good => all_good(alloc, modes),
         Verdict::Bad => Ok(String::new(alloc)),
@@ -270,9 +217,7 @@ fn first_command(
     alloc: Global,
     script: ScriptInModes<'_>,
     modes: &[Mode],
-) -> Result<Vec<u8>, AllocError>
-    ensures { IfOk result (λ t. t.items ≡ spec.first_command script.entry.file.now script.entry.ranks script.entry.strict modes.now) }
-{
+) -> Result<Vec<u8>, AllocError> {
     match modes {
         [] => Ok(Vec::new(alloc)),
         [mode, ..] => full_command(alloc, script.file, script.ranks, *mode, script.strict),
@@ -285,9 +230,7 @@ fn closing_by(
     script: ScriptInModes<'_>,
     worst: Verdict,
     modes: &[Mode],
-) -> Result<Vec<u8>, AllocError>
-    ensures { IfOk result (λ t. t.items ≡ spec.closing_by script.entry.file.now script.entry.ranks script.entry.strict worst modes.now) }
-{
+) -> Result<Vec<u8>, AllocError> {
     let said = said_of(alloc, worst, modes)?;
     let command = first_command(alloc, script, modes)?;
     let mut out = Vec::new(alloc);
@@ -306,9 +249,7 @@ pub fn closing_of(
     modes: &[Mode],
     verdicts: &[Verdict],
     left: &[bool],
-) -> Result<Vec<u8>, AllocError>
-    ensures { IfOk result (λ t. t.items ≡ spec.closing script.entry.file.now script.entry.ranks script.entry.strict modes.now verdicts.now left.now) }
-{
+) -> Result<Vec<u8>, AllocError> {
     let worst = worst_of(verdicts);
     let modes = noticed(alloc, worst, modes, verdicts, left)?;
     closing_by(alloc, script, worst, &modes)

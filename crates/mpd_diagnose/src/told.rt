@@ -1,31 +1,26 @@
-//! What is told of a script by the ends that its runs come to.
+//! What is said of a script by the ends that its runs come to (docs/FORMATS.md, "Diagnosis").
 
-ghost use Rattle.std.specs.Prelude.{◌≡◌, ◌++◌, ◌&&◌, IfOk, OnOk, slice_get, map, string_bytes};
-ghost use Rattle.std.specs.Option.{option_map};
-ghost use Rattle.mpd_lines.specs.Folding.{folded};
-ghost use Rattle.mpd_marks.specs.Marked.{marked};
-ghost use Rattle.mpd_diagnose.specs.Commands as command;
-ghost use Rattle.mpd_diagnose.specs.Told as spec;
-
+use crate::along::LeafEnd;
+use crate::cause::{Cause, EndKind};
 use crate::commands::{Picture, modes_command, picture_file, push_run, sample_command};
+use crate::diagnosis::{Diagnosis, Runs};
 use crate::groups::Group;
+use crate::verdict::{
+    always_fails, always_hangs, always_traps, ends_well, fails_both, is_drawn, tries_modes,
+};
 use crate::words::Named;
-use mpd_explain::text_at;
+use mpd_blame::{Blame, PlacedBlame};
+use mpd_explain::push_end;
 use mpd_explore::SearchLeaf;
 use mpd_lines::push_folded;
 use mpd_marks::push_marked;
 use mpd_model::Mode;
-use mpd_outcomes::{Count, Outcomes};
+use mpd_outcomes::Count;
 use mpd_runs::{WayCounts, is_count, sees_all};
 use std::alloc::{AllocError, Global};
 
-/// How many steps a run has at most that is drawn: no step shows more than 17 glyphs, and 20,000 can be drawn (docs/PICTURES.md).
-const PICTURED_STEPS: usize = 1_000;
-
 /// Adds a count, or that it is none that can be held.
-pub(crate) fn push_number(out: &mut String, count: Count) -> Result<(), AllocError>
-    ensures { OnOk result (string_bytes out.new ≡ string_bytes out.old ++ spec.number_text count) }
-{
+pub(crate) fn push_number(out: &mut String, count: Count) -> Result<(), AllocError> {
     match count {
         Count::Exactly(number) => write!(out, "{number}"),
         Count::More => out.push_str("more than can be counted"),
@@ -33,9 +28,7 @@ pub(crate) fn push_number(out: &mut String, count: Count) -> Result<(), AllocErr
 }
 
 /// Adds how many runs there are.
-pub(crate) fn push_runs(out: &mut String, count: Count) -> Result<(), AllocError>
-    ensures { OnOk result (string_bytes out.new ≡ string_bytes out.old ++ spec.runs_text count) }
-{
+pub(crate) fn push_runs(out: &mut String, count: Count) -> Result<(), AllocError> {
     match count {
         Count::Exactly(number) => {
             write!(out, "{number}")?;
@@ -46,9 +39,7 @@ pub(crate) fn push_runs(out: &mut String, count: Count) -> Result<(), AllocError
 }
 
 /// Adds that so many are the first, where there are more.
-fn push_first_if(out: &mut String, more: bool) -> Result<(), AllocError>
-    ensures { OnOk result (string_bytes out.new ≡ string_bytes out.old ++ spec.first_if more) }
-{
+fn push_first_if(out: &mut String, more: bool) -> Result<(), AllocError> {
     if more {
         out.push_str("the first ")
     } else {
@@ -57,9 +48,7 @@ fn push_first_if(out: &mut String, more: bool) -> Result<(), AllocError>
 }
 
 /// Adds how many runs were looked at, and that they are the first if there are more. Of one run that isn't said.
-fn push_those(out: &mut String, total: Count, more: bool) -> Result<(), AllocError>
-    ensures { OnOk result (string_bytes out.new ≡ string_bytes out.old ++ spec.those_runs total more) }
-{
+fn push_those(out: &mut String, total: Count, more: bool) -> Result<(), AllocError> {
     match total {
         Count::Exactly(number) => {
             push_first_if(out, more && number > 1)?;
@@ -70,9 +59,7 @@ fn push_those(out: &mut String, total: Count, more: bool) -> Result<(), AllocErr
 }
 
 /// Adds how many of all runs do something, or of the first where there are more.
-fn push_share(out: &mut String, count: Count, total: Count, more: bool) -> Result<(), AllocError>
-    ensures { OnOk result (string_bytes out.new ≡ string_bytes out.old ++ spec.share count total more) }
-{
+fn push_share(out: &mut String, count: Count, total: Count, more: bool) -> Result<(), AllocError> {
     match count {
         Count::Exactly(number) => {
             write!(out, "{number} of ")?;
@@ -83,9 +70,7 @@ fn push_share(out: &mut String, count: Count, total: Count, more: bool) -> Resul
 }
 
 /// Adds how many states there are.
-fn push_states(out: &mut String, states: usize) -> Result<(), AllocError>
-    ensures { OnOk result (string_bytes out.new ≡ string_bytes out.old ++ spec.states_text states) }
-{
+fn push_states(out: &mut String, states: usize) -> Result<(), AllocError> {
     write!(out, "{states}")?;
     out.push_str(if states == 1 { " state" } else { " states" })
 }
@@ -97,9 +82,7 @@ fn push_line_if(
     count: Count,
     counts: WayCounts,
     after: &str,
-) -> Result<(), AllocError>
-    ensures { OnOk result (string_bytes out.new ≡ string_bytes out.old ++ spec.line_if before.now count counts after.now) }
-{
+) -> Result<(), AllocError> {
     if is_count(count, 0) {
         return Ok(());
     }
@@ -109,31 +92,13 @@ fn push_line_if(
     out.push('\n')
 }
 
-/// Whether no run hangs or traps.
-pub(crate) fn ends_well(counts: WayCounts) -> bool
-    ensures { result ≡ spec.ends_well counts }
-{
-    is_count(counts.deadlock, 0) && is_count(counts.trap, 0)
-}
-
-/// Whether no run hangs or traps, of all there are.
-fn never_fails(counts: WayCounts) -> bool
-    ensures { result ≡ spec.never_fails counts }
-{
-    ends_well(counts) && sees_all(counts)
-}
-
 /// Adds the mode.
-pub(crate) fn push_in_mode(out: &mut String, mode: Mode) -> Result<(), AllocError>
-    ensures { OnOk result (string_bytes out.new ≡ string_bytes out.old ++ spec.in_mode mode) }
-{
+pub(crate) fn push_in_mode(out: &mut String, mode: Mode) -> Result<(), AllocError> {
     write!(out, " in {mode}")
 }
 
 /// Adds that no run hangs or traps, of all there are.
-fn push_never(out: &mut String, mode: Mode, total: Count, states: usize) -> Result<(), AllocError>
-    ensures { OnOk result (string_bytes out.new ≡ string_bytes out.old ++ spec.never_text mode total states) }
-{
+fn push_never(out: &mut String, mode: Mode, total: Count, states: usize) -> Result<(), AllocError> {
     out.push_str("it never hangs or traps")?;
     push_in_mode(out, mode)?;
     out.push_str(", whatever is taken first (")?;
@@ -145,9 +110,7 @@ fn push_never(out: &mut String, mode: Mode, total: Count, states: usize) -> Resu
 }
 
 /// Adds that of the runs that were looked at none does.
-fn push_none_found(out: &mut String, mode: Mode, counts: WayCounts) -> Result<(), AllocError>
-    ensures { OnOk result (string_bytes out.new ≡ string_bytes out.old ++ spec.none_found_text mode counts) }
-{
+fn push_none_found(out: &mut String, mode: Mode, counts: WayCounts) -> Result<(), AllocError> {
     out.push_str("no hang and no trap was found in ")?;
     push_those(out, counts.total, counts.more)?;
     push_in_mode(out, mode)?;
@@ -160,9 +123,7 @@ fn push_well(
     mode: Mode,
     counts: WayCounts,
     states: usize,
-) -> Result<(), AllocError>
-    ensures { OnOk result (string_bytes out.new ≡ string_bytes out.old ++ spec.well_text mode counts states) }
-{
+) -> Result<(), AllocError> {
     if sees_all(counts) {
         push_never(out, mode, counts.total, states)
     } else {
@@ -176,9 +137,7 @@ fn push_well_line(
     mode: Mode,
     counts: WayCounts,
     states: usize,
-) -> Result<(), AllocError>
-    ensures { OnOk result (string_bytes out.new ≡ string_bytes out.old ++ spec.well_line mode counts states) }
-{
+) -> Result<(), AllocError> {
     if !ends_well(counts) {
         return Ok(());
     }
@@ -187,9 +146,7 @@ fn push_well_line(
 }
 
 /// After how many steps so many runs are cut.
-fn cut_after(alloc: Global, cut: Count, fuel: usize) -> Result<String, AllocError>
-    ensures { IfOk result (λ t. string_bytes t ≡ spec.cut_after cut fuel) }
-{
+fn cut_after(alloc: Global, cut: Count, fuel: usize) -> Result<String, AllocError> {
     let mut out = String::new(alloc);
     out.push_str(if is_count(cut, 1) { " was" } else { " were" })?;
     write!(out, " cut after {fuel} steps")?;
@@ -197,9 +154,7 @@ fn cut_after(alloc: Global, cut: Count, fuel: usize) -> Result<String, AllocErro
 }
 
 /// Adds that there are more runs, where there are.
-fn push_more(out: &mut String, more: bool) -> Result<(), AllocError>
-    ensures { OnOk result (string_bytes out.new ≡ string_bytes out.old ++ spec.more_line more) }
-{
+fn push_more(out: &mut String, more: bool) -> Result<(), AllocError> {
     if !more {
         return Ok(());
     }
@@ -207,9 +162,7 @@ fn push_more(out: &mut String, more: bool) -> Result<(), AllocError>
 }
 
 /// Adds how many runs end with calls left over.
-fn push_left(out: &mut String, counts: WayCounts) -> Result<(), AllocError>
-    ensures { OnOk result (string_bytes out.new ≡ string_bytes out.old ++ spec.left_line counts) }
-{
+fn push_left(out: &mut String, counts: WayCounts) -> Result<(), AllocError> {
     push_line_if(
         out,
         "it can end with calls left over: ",
@@ -225,9 +178,7 @@ fn push_untried(
     out: &mut String,
     counts: WayCounts,
     fuel: usize,
-) -> Result<(), AllocError>
-    ensures { OnOk result (string_bytes out.new ≡ string_bytes out.old ++ spec.untried_text counts fuel) }
-{
+) -> Result<(), AllocError> {
     let after = cut_after(alloc, counts.cut, fuel)?;
     push_line_if(
         out,
@@ -240,31 +191,8 @@ fn push_untried(
     Ok(())
 }
 
-/// Whether every run hangs or traps.
-fn always_fails(counts: WayCounts) -> bool
-    ensures { result ≡ spec.always_fails counts }
-{
-    sees_all(counts) && is_count(counts.done, 0) && is_count(counts.leftovers, 0)
-}
-
-/// Whether every run hangs.
-fn always_hangs(counts: WayCounts) -> bool
-    ensures { result ≡ spec.always_hangs counts }
-{
-    always_fails(counts) && is_count(counts.trap, 0) && !is_count(counts.deadlock, 0)
-}
-
-/// Whether every run traps.
-fn always_traps(counts: WayCounts) -> bool
-    ensures { result ≡ spec.always_traps counts }
-{
-    always_fails(counts) && is_count(counts.deadlock, 0) && !is_count(counts.trap, 0)
-}
-
 /// Adds the line of what every run does.
-fn push_always(out: &mut String, does: &str, mode: Mode, total: Count) -> Result<(), AllocError>
-    ensures { OnOk result (string_bytes out.new ≡ string_bytes out.old ++ spec.always_line does.now mode total) }
-{
+fn push_always(out: &mut String, does: &str, mode: Mode, total: Count) -> Result<(), AllocError> {
     out.push_str(does)?;
     push_in_mode(out, mode)?;
     out.push_str(" (")?;
@@ -275,9 +203,7 @@ fn push_always(out: &mut String, does: &str, mode: Mode, total: Count) -> Result
 }
 
 /// Adds what some runs do in this mode.
-fn push_does(out: &mut String, does: &str, mode: Mode) -> Result<(), AllocError>
-    ensures { OnOk result (string_bytes out.new ≡ string_bytes out.old ++ spec.does_in does.now mode) }
-{
+fn push_does(out: &mut String, does: &str, mode: Mode) -> Result<(), AllocError> {
     out.push_str(does)?;
     push_in_mode(out, mode)?;
     out.push_str(": ")
@@ -290,9 +216,7 @@ fn push_can(
     mode: Mode,
     count: Count,
     counts: WayCounts,
-) -> Result<(), AllocError>
-    ensures { OnOk result (string_bytes out.new ≡ string_bytes out.old ++ spec.can_line does.now mode count counts) }
-{
+) -> Result<(), AllocError> {
     let is_none = is_count(count, 0);
     if is_none {
         return Ok(());
@@ -304,9 +228,7 @@ fn push_can(
 }
 
 /// Adds how many runs hang.
-fn push_hang(out: &mut String, mode: Mode, counts: WayCounts) -> Result<(), AllocError>
-    ensures { OnOk result (string_bytes out.new ≡ string_bytes out.old ++ spec.hang_line mode counts) }
-{
+fn push_hang(out: &mut String, mode: Mode, counts: WayCounts) -> Result<(), AllocError> {
     if always_hangs(counts) {
         push_always(out, "it always hangs", mode, counts.total)
     } else {
@@ -315,9 +237,7 @@ fn push_hang(out: &mut String, mode: Mode, counts: WayCounts) -> Result<(), Allo
 }
 
 /// Adds how many runs trap.
-fn push_trap(out: &mut String, mode: Mode, counts: WayCounts) -> Result<(), AllocError>
-    ensures { OnOk result (string_bytes out.new ≡ string_bytes out.old ++ spec.trap_line mode counts) }
-{
+fn push_trap(out: &mut String, mode: Mode, counts: WayCounts) -> Result<(), AllocError> {
     if always_traps(counts) {
         push_always(out, "it always traps", mode, counts.total)
     } else {
@@ -326,25 +246,14 @@ fn push_trap(out: &mut String, mode: Mode, counts: WayCounts) -> Result<(), Allo
 }
 
 /// Adds how many runs hang, and how many trap, by a line each.
-fn push_each(out: &mut String, mode: Mode, counts: WayCounts) -> Result<(), AllocError>
-    ensures { OnOk result (string_bytes out.new ≡ string_bytes out.old ++ spec.each_line mode counts) }
-{
+fn push_each(out: &mut String, mode: Mode, counts: WayCounts) -> Result<(), AllocError> {
     push_hang(out, mode, counts)?;
     push_trap(out, mode, counts)?;
     Ok(())
 }
 
-/// Whether every run fails, and some hang and some trap.
-fn fails_both(counts: WayCounts) -> bool
-    ensures { result ≡ spec.fails_both counts }
-{
-    always_fails(counts) && !is_count(counts.deadlock, 0) && !is_count(counts.trap, 0)
-}
-
 /// Adds the line of it.
-fn push_both(out: &mut String, mode: Mode, counts: WayCounts) -> Result<(), AllocError>
-    ensures { OnOk result (string_bytes out.new ≡ string_bytes out.old ++ spec.both_line mode counts) }
-{
+fn push_both(out: &mut String, mode: Mode, counts: WayCounts) -> Result<(), AllocError> {
     out.push_str("it always fails")?;
     push_in_mode(out, mode)?;
     out.push_str(": it hangs in ")?;
@@ -356,9 +265,7 @@ fn push_both(out: &mut String, mode: Mode, counts: WayCounts) -> Result<(), Allo
 }
 
 /// Adds how many runs hang, and how many trap.
-fn push_bad(out: &mut String, mode: Mode, counts: WayCounts) -> Result<(), AllocError>
-    ensures { OnOk result (string_bytes out.new ≡ string_bytes out.old ++ spec.bad_text mode counts) }
-{
+fn push_bad(out: &mut String, mode: Mode, counts: WayCounts) -> Result<(), AllocError> {
     if fails_both(counts) {
         push_both(out, mode, counts)
     } else {
@@ -373,9 +280,7 @@ fn verdict_text(
     counts: WayCounts,
     fuel: usize,
     states: usize,
-) -> Result<String, AllocError>
-    ensures { IfOk result (λ t. string_bytes t ≡ spec.verdict_text mode counts fuel states) }
-{
+) -> Result<String, AllocError> {
     let mut out = String::new(alloc);
     push_bad(&mut out, mode, counts)?;
     push_well_line(&mut out, mode, counts, states)?;
@@ -387,41 +292,73 @@ fn verdict_text(
 // ---- ends that are told together
 
 /// Adds that what follows is told of one of so many runs, where they are several.
-fn push_of_one(out: &mut String, count: Count) -> Result<(), AllocError>
-    ensures { OnOk result (string_bytes out.new ≡ string_bytes out.old ++ spec.of_one count) }
-{
+fn push_of_one(out: &mut String, count: Count) -> Result<(), AllocError> {
     if is_count(count, 1) {
         return Ok(());
     }
     out.push_str(", one of them:")
 }
 
-/// What they are called, how many runs end so, and what is told of one of them.
-fn group_said(
-    alloc: Global,
-    heading: &str,
-    count: Count,
-    total: Count,
-    more: bool,
-    details: &str,
-) -> Result<String, AllocError>
-    ensures { IfOk result (λ t. string_bytes t ≡ spec.group_said heading.now count total more details.now) }
-{
-    let mut out = String::new(alloc);
-    out.push_str(heading)?;
-    out.push_str(": ")?;
-    push_share(&mut out, count, total, more)?;
-    push_of_one(&mut out, count)?;
-    out.push('\n')?;
-    out.push_str(details)?;
-    Ok(out)
+/// Adds the lines at which an end stands.
+fn push_lines(out: &mut String, lines: &[usize]) -> Result<(), AllocError> {
+    match lines {
+        [] => Ok(()),
+        [line] => write!(out, " line {line}"),
+        [line, further @ ..] => {
+            write!(out, " lines {line}")?;
+            for line in further {
+                write!(out, ", {line}")?;
+            }
+            Ok(())
+        }
+    }
 }
 
-/// Whether a run of so many steps is drawn.
-fn is_drawn(steps: usize) -> bool
-    ensures { result ≡ spec.is_drawn steps }
-{
-    steps <= PICTURED_STEPS
+/// Adds what kind of end it is, and where it stands.
+fn push_cause(out: &mut String, cause: &Cause) -> Result<(), AllocError> {
+    out.push_str(match cause.kind {
+        EndKind::Done => "done",
+        EndKind::Leftovers => "left over from",
+        EndKind::Deadlock => "deadlock at",
+        EndKind::Trap => "trap at",
+        EndKind::Cut => "cut at",
+    })?;
+    push_lines(out, &cause.lines.items)
+}
+
+/// Adds where it was decided how the run ends, and what to type to come to that step.
+fn push_blame(out: &mut String, blame: Option<PlacedBlame>) -> Result<(), AllocError> {
+    let Some(placed) = blame else {
+        return Ok(());
+    };
+    write!(out, "  {placed}\n")?;
+    match placed.blame {
+        Blame::At(_) => out.push_str(
+            "  at the prompt of `debug`, `blame` goes to this step and `redo all` to the end\n",
+        ),
+        _ => Ok(()),
+    }
+}
+
+/// What ends that are told together are, how many runs end so, and what is known of the one that is
+/// shown.
+fn group_said(
+    alloc: Global,
+    named: Named<'_>,
+    runs: &Runs,
+    group: &Group,
+    end: &LeafEnd,
+    blame: Option<PlacedBlame>,
+) -> Result<String, AllocError> {
+    let mut out = String::new(alloc);
+    push_cause(&mut out, &end.cause)?;
+    out.push_str(": ")?;
+    push_share(&mut out, group.count, runs.counts.total, runs.counts.more)?;
+    push_of_one(&mut out, group.count)?;
+    out.push('\n')?;
+    push_end(&mut out, named.decls, &end.end)?;
+    push_blame(&mut out, blame)?;
+    Ok(out)
 }
 
 /// The picture of a run of so many steps, by its number among those of a kind.
@@ -431,11 +368,7 @@ fn picture_of(
     several: bool,
     number: usize,
     steps: usize,
-) -> Result<Picture, AllocError>
-    ensures file { IfOk result (λ p. string_bytes p.file ≡ command.picture_file kind.now several number) }
-    ensures drawn { IfOk result (λ p. p.is_drawn ≡ spec.is_drawn steps) }
-    ensures steps { IfOk result (λ p. p.steps ≡ steps) }
-{
+) -> Result<Picture, AllocError> {
     let file = picture_file(alloc, kind, several, number)?;
     Ok(Picture {
         file,
@@ -450,9 +383,7 @@ fn push_folded_marked(
     out: &mut Vec<u8>,
     script: &[u8],
     told: &str,
-) -> Result<(), AllocError>
-    ensures { OnOk result (out.new.items ≡ out.old.items ++ folded (marked script.now told.now)) }
-{
+) -> Result<(), AllocError> {
     let mut text = Vec::new(alloc);
     push_marked(&mut text, script, told.as_bytes())?;
     push_folded(out, &text)
@@ -466,9 +397,7 @@ fn push_group(
     said: &str,
     choices: &[usize],
     picture: &Picture,
-) -> Result<(), AllocError>
-    ensures { OnOk result (out.new.items ≡ out.old.items ++ spec.group_text named.entry.script.now named.entry.file.now named.entry.ranks named.entry.mode said.now choices.now picture.now.is_drawn picture.now.steps (string_bytes picture.now.file)) }
-{
+) -> Result<(), AllocError> {
     out.push(b'\n')?;
     push_folded_marked(alloc, out, named.script, said)?;
     push_run(alloc, out, named, choices, picture)?;
@@ -476,9 +405,7 @@ fn push_group(
 }
 
 /// The choices of the leaf of a number, none where there is no such leaf.
-fn choices_at(leaves: &[SearchLeaf], number: usize) -> &[usize]
-    ensures { result.now ≡ spec.choices_of (slice_get leaves.now number) }
-{
+fn choices_at(leaves: &[SearchLeaf], number: usize) -> &[usize] {
     match leaves.get(number) {
         None => &[],
         Some(leaf) => &leaf.choices.items,
@@ -486,86 +413,70 @@ fn choices_at(leaves: &[SearchLeaf], number: usize) -> &[usize]
 }
 
 /// The command that tries other runs, where there are more.
-fn others_command(alloc: Global, more: bool, named: Named<'_>) -> Result<Vec<u8>, AllocError>
-    ensures { IfOk result (λ t. t.items ≡ spec.others_command more named.entry.file.now named.entry.ranks named.entry.mode) }
-{
+fn others_command(alloc: Global, more: bool, named: Named<'_>) -> Result<Vec<u8>, AllocError> {
     if more {
         return sample_command(alloc, named);
     }
     Ok(Vec::new(alloc))
 }
 
-/// What is told of ends: what each is called, which are told together, and what is told of one of these.
-#[derive(Drop)]
-pub(crate) struct ToldEnds {
-    pub(crate) headings: Vec<String>,
-    pub(crate) groups: Vec<Group>,
-    pub(crate) details: Vec<String>,
-}
-
-/// Adds what is told of the ways to end that were found, whose pictures are of a kind.
-pub(crate) fn push_groups(
+/// Adds what is told of the ends of some runs, whose pictures are of a kind.
+fn push_groups(
     alloc: Global,
     out: &mut Vec<u8>,
     named: Named<'_>,
-    outcomes: &Outcomes,
-    told: &ToldEnds,
+    runs: &Runs,
     kind: &str,
-) -> Result<(), AllocError>
-    ensures { OnOk result (out.new.items ≡ out.old.items ++ spec.all_groups_text named.entry.script.now named.entry.file.now named.entry.ranks named.entry.mode kind.now outcomes.now.total outcomes.now.firsts.more (map string_bytes told.now.headings.items) outcomes.now.firsts.leaves.items told.now.groups.items (map string_bytes told.now.details.items)) }
-{
-    let leaves = &outcomes.firsts.leaves;
-    let more = outcomes.firsts.more;
-    let several = told.groups.len() > 1;
-    let mut number = 0;
-    for (group, details) in told.groups.iter().zip(told.details.iter()) {
-        let heading = text_at(&told.headings, group.first);
-        let said = group_said(alloc, heading, group.count, outcomes.total, more, details)?;
-        number += 1;
-        let picture = picture_of(alloc, kind, several, number, group.steps)?;
-        let choices = choices_at(leaves, group.shown);
+) -> Result<(), AllocError> {
+    let several = runs.groups.len() > 1;
+    let groups = runs.groups.iter().zip(runs.blames.iter());
+    for (place, (group, blame)) in groups.enumerate() {
+        let Some(end) = runs.ends.get(group.shown) else {
+            return Ok(());
+        };
+        let said = group_said(alloc, named, runs, group, end, *blame)?;
+        let number = place.saturating_add(1);
+        let picture = picture_of(alloc, kind, several, number, end.steps)?;
+        let choices = choices_at(&runs.outcomes.firsts.leaves, group.shown);
         push_group(alloc, out, named, &said, choices, &picture)?;
     }
     Ok(())
 }
 
-/// Whether runs are drawn: there are more than these, and none of these hangs or traps.
-pub(crate) fn draws(counts: WayCounts) -> bool
-    ensures { result ≡ spec.draws counts }
-{
-    counts.more && ends_well(counts)
-}
-
-/// Whether other modes are tried next: no run of this one hangs or traps, or every run does.
-fn tries_modes(counts: WayCounts) -> bool
-    ensures { result ≡ spec.tries_modes counts }
-{
-    never_fails(counts) || always_fails(counts)
-}
-
 /// The command that is tried next: one that tries other runs, where there are more and none are drawn; or other modes, where no run of this
 /// one hangs or traps, or every run does.
-fn next_command(alloc: Global, named: Named<'_>, counts: WayCounts) -> Result<Vec<u8>, AllocError>
-    ensures { IfOk result (λ t. t.items ≡ spec.next_command named.entry.file.now named.entry.ranks named.entry.mode counts) }
-{
+fn next_command(alloc: Global, named: Named<'_>, counts: WayCounts) -> Result<Vec<u8>, AllocError> {
     if tries_modes(counts) {
         return modes_command(alloc, named);
     }
     others_command(alloc, counts.more && !ends_well(counts), named)
 }
 
+/// Adds what becomes of the runs in a mode that a diagnosis was come to, which have so many steps at
+/// most; long lines go on in further lines. `Err` means that memory was refused.
+pub fn push_verdict(
+    alloc: Global,
+    out: &mut Vec<u8>,
+    mode: Mode,
+    fuel: usize,
+    diagnosis: &Diagnosis,
+) -> Result<(), AllocError> {
+    let found = &diagnosis.found;
+    let visited = found.outcomes.visited;
+    let verdict = verdict_text(alloc, mode, found.counts, fuel, visited)?;
+    push_folded(out, verdict.as_bytes())
+}
+
 /// Adds what becomes of the runs, which have so many steps at most, as was found by coming to so many states; and the command that is tried
 /// next.
-pub(crate) fn push_opening(
+fn push_opening(
     alloc: Global,
     out: &mut Vec<u8>,
     named: Named<'_>,
     counts: WayCounts,
     fuel: usize,
     states: usize,
-) -> Result<(), AllocError>
-    ensures { OnOk result (out.new.items ≡ out.old.items ++ spec.opening named.entry.file.now named.entry.ranks named.entry.mode counts fuel states) }
-{
+) -> Result<(), AllocError> {
     let verdict = verdict_text(alloc, named.mode, counts, fuel, states)?;
     let next = next_command(alloc, named, counts)?;
     push_folded(out, verdict.as_bytes())?;
@@ -576,18 +487,14 @@ pub(crate) fn push_opening(
 // ---- runs that are drawn
 
 /// Adds how many of the runs that were drawn hang, and how many trap.
-fn push_drawn_bad(out: &mut String, counts: WayCounts) -> Result<(), AllocError>
-    ensures { OnOk result (string_bytes out.new ≡ string_bytes out.old ++ spec.drawn_bad counts) }
-{
+fn push_drawn_bad(out: &mut String, counts: WayCounts) -> Result<(), AllocError> {
     push_line_if(out, "drawn at random: ", counts.deadlock, counts, " hang")?;
     push_line_if(out, "drawn at random: ", counts.trap, counts, " trap")?;
     Ok(())
 }
 
 /// Adds that none of them does.
-fn push_drawn_well(out: &mut String, total: Count) -> Result<(), AllocError>
-    ensures { OnOk result (string_bytes out.new ≡ string_bytes out.old ++ spec.drawn_well total) }
-{
+fn push_drawn_well(out: &mut String, total: Count) -> Result<(), AllocError> {
     out.push_str("drawn at random: none of ")?;
     push_runs(out, total)?;
     out.push_str(" hangs or traps")?;
@@ -596,9 +503,7 @@ fn push_drawn_well(out: &mut String, total: Count) -> Result<(), AllocError>
 }
 
 /// Adds the line of it, where it is so.
-fn push_drawn_well_line(out: &mut String, counts: WayCounts) -> Result<(), AllocError>
-    ensures { OnOk result (string_bytes out.new ≡ string_bytes out.old ++ spec.drawn_well_line counts) }
-{
+fn push_drawn_well_line(out: &mut String, counts: WayCounts) -> Result<(), AllocError> {
     if ends_well(counts) {
         push_drawn_well(out, counts.total)
     } else {
@@ -607,9 +512,7 @@ fn push_drawn_well_line(out: &mut String, counts: WayCounts) -> Result<(), Alloc
 }
 
 /// Adds how many of them end with calls left over.
-fn push_drawn_left(out: &mut String, counts: WayCounts) -> Result<(), AllocError>
-    ensures { OnOk result (string_bytes out.new ≡ string_bytes out.old ++ spec.drawn_left counts) }
-{
+fn push_drawn_left(out: &mut String, counts: WayCounts) -> Result<(), AllocError> {
     let left = counts.leftovers;
     push_line_if(
         out,
@@ -621,9 +524,7 @@ fn push_drawn_left(out: &mut String, counts: WayCounts) -> Result<(), AllocError
 }
 
 /// What becomes of the runs that were drawn.
-fn drawn_verdict(alloc: Global, counts: WayCounts) -> Result<String, AllocError>
-    ensures { IfOk result (λ t. string_bytes t ≡ spec.drawn_verdict counts) }
-{
+fn drawn_verdict(alloc: Global, counts: WayCounts) -> Result<String, AllocError> {
     let mut out = String::new(alloc);
     push_drawn_bad(&mut out, counts)?;
     push_drawn_well_line(&mut out, counts)?;
@@ -632,18 +533,44 @@ fn drawn_verdict(alloc: Global, counts: WayCounts) -> Result<String, AllocError>
 }
 
 /// What becomes of the runs that were drawn, after an empty line; and the command that tries others, where none of them hangs or traps.
-pub(crate) fn drawn_opening(
+fn drawn_opening(
     alloc: Global,
     named: Named<'_>,
     counts: WayCounts,
-) -> Result<Vec<u8>, AllocError>
-    ensures { IfOk result (λ text. text.items ≡ spec.drawn_opening named.entry.file.now named.entry.ranks named.entry.mode counts) }
-{
+) -> Result<Vec<u8>, AllocError> {
     let verdict = drawn_verdict(alloc, counts)?;
     let others = others_command(alloc, ends_well(counts), named)?;
     let mut out = Vec::new(alloc);
     out.push(b'\n')?;
     push_folded(&mut out, verdict.as_bytes())?;
     out.extend_from_slice(&others)?;
+    Ok(out)
+}
+
+/// The text of a diagnosis of a script in a mode, whose runs have so many steps at most: what becomes
+/// of its runs, their ends and the commands that show them; and the same of runs that were drawn.
+/// Long lines go on in further lines. `Err` means that memory was refused.
+pub fn diagnosis_text(
+    alloc: Global,
+    named: Named<'_>,
+    fuel: usize,
+    diagnosis: &Diagnosis,
+) -> Result<Vec<u8>, AllocError> {
+    let found = &diagnosis.found;
+    let mut out = Vec::new(alloc);
+    push_opening(
+        alloc,
+        &mut out,
+        named,
+        found.counts,
+        fuel,
+        found.outcomes.visited,
+    )?;
+    push_groups(alloc, &mut out, named, found, "run")?;
+    if let Some(drawn) = &diagnosis.drawn {
+        let opening = drawn_opening(alloc, named, drawn.counts)?;
+        out.extend_from_slice(&opening)?;
+        push_groups(alloc, &mut out, named, drawn, "drawn")?;
+    }
     Ok(out)
 }

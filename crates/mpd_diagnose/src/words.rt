@@ -1,27 +1,27 @@
 //! A script as the words of a command name it, which a shell reads (docs/FORMATS.md, "Diagnosis").
 
-ghost use Rattle.std.specs.Prelude.{◌≡◌, ◌++◌, OnOk, string_bytes};
-ghost use Rattle.mpd_diagnose.specs.Words as spec;
-
-use mpd_model::Mode;
+use mpd_model::{Decl, Mode};
 use std::alloc::{AllocError, Global};
 
 /// A script as it is told: its text, whose marks stand beside lines, and as words name it, its file, how many ranks it has where that is
 /// asked for, and the mode that it runs in.
 #[derive(Clone, Copy)]
-pub(crate) struct Named<'a> {
-    pub(crate) script: &'a [u8],
-    pub(crate) file: &'a str,
-    pub(crate) ranks: Option<usize>,
-    pub(crate) mode: Mode,
+pub struct Named<'a> {
+    /// The text of the script, whose marks name places of a program (docs/FROM_A_RUN.md, "Marks").
+    pub script: &'a [u8],
+    /// Its declarations.
+    pub decls: &'a [Decl],
+    /// Its file, as it was given.
+    pub file: &'a str,
+    /// How many ranks it has, if that was asked for.
+    pub ranks: Option<usize>,
+    pub mode: Mode,
 }
 
 // ---- a file
 
 /// Whether a byte is one of the marks that mean nothing else to a shell.
-fn is_mark(byte: u8) -> bool
-    ensures { result ≡ spec.is_mark byte }
-{
+fn is_mark(byte: u8) -> bool {
     matches!(
         byte,
         b'_' | b'.' | b'/' | b'+' | b'-' | b',' | b':' | b'@' | b'%'
@@ -29,16 +29,12 @@ fn is_mark(byte: u8) -> bool
 }
 
 /// Whether a byte stands for itself.
-fn is_safe(byte: u8) -> bool
-    ensures { result ≡ spec.is_safe byte }
-{
+fn is_safe(byte: u8) -> bool {
     byte.is_ascii_alphanumeric() || is_mark(byte)
 }
 
 /// Whether all bytes do.
-fn are_safe(bytes: &[u8]) -> bool
-    ensures { result ≡ spec.are_safe bytes.now }
-{
+fn are_safe(bytes: &[u8]) -> bool {
     for byte in bytes {
         if !is_safe(*byte) {
             return false;
@@ -48,16 +44,12 @@ fn are_safe(bytes: &[u8]) -> bool
 }
 
 /// Whether a word needs no quotes.
-fn is_plain(bytes: &[u8]) -> bool
-    ensures { result ≡ spec.is_plain bytes.now }
-{
+fn is_plain(bytes: &[u8]) -> bool {
     !bytes.is_empty() && are_safe(bytes)
 }
 
 /// Adds a byte that stands between quotes.
-fn push_quoted_byte(out: &mut Vec<u8>, byte: u8) -> Result<(), AllocError>
-    ensures { OnOk result (out.new.items ≡ out.old.items ++ spec.quoted_byte byte) }
-{
+fn push_quoted_byte(out: &mut Vec<u8>, byte: u8) -> Result<(), AllocError> {
     if byte == b'\'' {
         return out.extend_from_slice(b"'\\''");
     }
@@ -66,9 +58,7 @@ fn push_quoted_byte(out: &mut Vec<u8>, byte: u8) -> Result<(), AllocError>
 }
 
 /// Adds bytes that stand between quotes.
-fn push_quoted_bytes(out: &mut Vec<u8>, bytes: &[u8]) -> Result<(), AllocError>
-    ensures { OnOk result (out.new.items ≡ out.old.items ++ spec.quoted bytes.now) }
-{
+fn push_quoted_bytes(out: &mut Vec<u8>, bytes: &[u8]) -> Result<(), AllocError> {
     for byte in bytes {
         push_quoted_byte(out, *byte)?;
     }
@@ -76,9 +66,7 @@ fn push_quoted_bytes(out: &mut Vec<u8>, bytes: &[u8]) -> Result<(), AllocError>
 }
 
 /// Adds what stands before a name that begins as an option does, so that it is none.
-fn push_here(out: &mut Vec<u8>, bytes: &[u8]) -> Result<(), AllocError>
-    ensures { OnOk result (out.new.items ≡ out.old.items ++ spec.here bytes.now) }
-{
+fn push_here(out: &mut Vec<u8>, bytes: &[u8]) -> Result<(), AllocError> {
     match bytes {
         [b'-', ..] => out.extend_from_slice(b"./"),
         _ => Ok(()),
@@ -86,18 +74,14 @@ fn push_here(out: &mut Vec<u8>, bytes: &[u8]) -> Result<(), AllocError>
 }
 
 /// Adds a name that needs no quotes.
-fn push_plain(out: &mut Vec<u8>, bytes: &[u8]) -> Result<(), AllocError>
-    ensures { OnOk result (out.new.items ≡ out.old.items ++ spec.plain_word bytes.now) }
-{
+fn push_plain(out: &mut Vec<u8>, bytes: &[u8]) -> Result<(), AllocError> {
     push_here(out, bytes)?;
     out.extend_from_slice(bytes)?;
     Ok(())
 }
 
 /// Adds a name between quotes.
-fn push_quoted(out: &mut Vec<u8>, bytes: &[u8]) -> Result<(), AllocError>
-    ensures { OnOk result (out.new.items ≡ out.old.items ++ spec.quoted_word bytes.now) }
-{
+fn push_quoted(out: &mut Vec<u8>, bytes: &[u8]) -> Result<(), AllocError> {
     out.push(b'\'')?;
     push_here(out, bytes)?;
     push_quoted_bytes(out, bytes)?;
@@ -106,9 +90,7 @@ fn push_quoted(out: &mut Vec<u8>, bytes: &[u8]) -> Result<(), AllocError>
 }
 
 /// Adds a file's name as a shell reads it.
-pub(crate) fn push_file(out: &mut Vec<u8>, file: &str) -> Result<(), AllocError>
-    ensures { OnOk result (out.new.items ≡ out.old.items ++ spec.file_word file.now) }
-{
+pub(crate) fn push_file(out: &mut Vec<u8>, file: &str) -> Result<(), AllocError> {
     let bytes = file.as_bytes();
     if is_plain(bytes) {
         push_plain(out, bytes)
@@ -120,9 +102,7 @@ pub(crate) fn push_file(out: &mut Vec<u8>, file: &str) -> Result<(), AllocError>
 // ---- what follows it
 
 /// Adds how many ranks there are, where that is asked for.
-fn push_ranks(out: &mut String, ranks: Option<usize>) -> Result<(), AllocError>
-    ensures { OnOk result (string_bytes out.new ≡ string_bytes out.old ++ spec.ranks_words ranks) }
-{
+fn push_ranks(out: &mut String, ranks: Option<usize>) -> Result<(), AllocError> {
     match ranks {
         None => Ok(()),
         Some(count) => write!(out, " --ranks {count}"),
@@ -130,9 +110,7 @@ fn push_ranks(out: &mut String, ranks: Option<usize>) -> Result<(), AllocError>
 }
 
 /// Adds the mode, where it isn't the usual one.
-fn push_mode(out: &mut String, mode: Mode) -> Result<(), AllocError>
-    ensures { OnOk result (string_bytes out.new ≡ string_bytes out.old ++ spec.mode_words mode) }
-{
+fn push_mode(out: &mut String, mode: Mode) -> Result<(), AllocError> {
     match mode {
         Mode::Rendezvous => Ok(()),
         Mode::Buffered => write!(out, " --mode {mode}"),
@@ -141,9 +119,7 @@ fn push_mode(out: &mut String, mode: Mode) -> Result<(), AllocError>
 }
 
 /// Adds a text to bytes.
-pub(crate) fn push_text(out: &mut Vec<u8>, text: &str) -> Result<(), AllocError>
-    ensures { OnOk result (out.new.items ≡ out.old.items ++ text.now) }
-{
+pub(crate) fn push_text(out: &mut Vec<u8>, text: &str) -> Result<(), AllocError> {
     out.extend_from_slice(text.as_bytes())?;
     Ok(())
 }
@@ -153,18 +129,14 @@ fn push_in_any_mode(
     alloc: Global,
     out: &mut Vec<u8>,
     ranks: Option<usize>,
-) -> Result<(), AllocError>
-    ensures { OnOk result (out.new.items ≡ out.old.items ++ spec.ranks_words ranks) }
-{
+) -> Result<(), AllocError> {
     let mut words = String::new(alloc);
     push_ranks(&mut words, ranks)?;
     push_text(out, &words)
 }
 
 /// Adds the mode as bytes.
-fn push_in_mode(alloc: Global, out: &mut Vec<u8>, mode: Mode) -> Result<(), AllocError>
-    ensures { OnOk result (out.new.items ≡ out.old.items ++ spec.mode_words mode) }
-{
+fn push_in_mode(alloc: Global, out: &mut Vec<u8>, mode: Mode) -> Result<(), AllocError> {
     let mut words = String::new(alloc);
     push_mode(&mut words, mode)?;
     push_text(out, &words)
@@ -175,9 +147,7 @@ pub(crate) fn push_script(
     alloc: Global,
     out: &mut Vec<u8>,
     named: Named<'_>,
-) -> Result<(), AllocError>
-    ensures { OnOk result (out.new.items ≡ out.old.items ++ spec.script named.entry.file.now named.entry.ranks) }
-{
+) -> Result<(), AllocError> {
     push_file(out, named.file)?;
     push_in_any_mode(alloc, out, named.ranks)?;
     Ok(())
@@ -188,9 +158,7 @@ pub(crate) fn push_named(
     alloc: Global,
     out: &mut Vec<u8>,
     named: Named<'_>,
-) -> Result<(), AllocError>
-    ensures { OnOk result (out.new.items ≡ out.old.items ++ spec.named named.entry.file.now named.entry.ranks named.entry.mode) }
-{
+) -> Result<(), AllocError> {
     push_script(alloc, out, named)?;
     push_in_mode(alloc, out, named.mode)?;
     Ok(())

@@ -1,11 +1,5 @@
 pub mod ListLemmas
 pub mod TellLemmas
-pub mod PrintLemmas
-pub mod KindLemmas
-pub mod GroupLemmas
 pub mod CallLemmas
-pub mod FirstLemmas
-pub mod ShownLemmas
 pub mod PastLemmas
 pub mod LostLemmas
-pub mod StandingLemmas

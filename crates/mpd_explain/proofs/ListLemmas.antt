@@ -1,5 +1,5 @@
 -- Lists over ranges of numbers, one number at a time.
-use Rattle.std.proofs.Common.{◌≡◌, ℕ, suc, ◌<◌, ◌≤◌, ◌+◌, ◌-◌, Bool, true, false, cond, List, [], ◌∷◌, ◌++◌, map, Option, Some, None, refl, sym, ap, ◌∙◌, arith, append_assoc}
+use Rattle.std.proofs.Common.{◌≡◌, ℕ, suc, ◌<◌, ◌≤◌, ◌+◌, ◌-◌, Bool, true, false, cond, List, [], ◌∷◌, ◌++◌, map, Option, Some, None, refl, sym, ap, ◌∙◌, arith, append_assoc, append-nil}
 use Rattle.std.specs.List.{filter, range_with_len}
 use Rattle.mpd_model.specs.steps.Why.{first_in}
 
@@ -35,3 +35,17 @@ module _ (t : ℕ → Bool) where
 
   pub first_none : (i n : ℕ) (total : Option ℕ) → n ≤ i → first_behind i n ≡ total → None ≡ total
   first_none i n total h e = let k : n - i ≡ 0 = omega arith in sym (ap (λ m. first_in (filter t (range_with_len (i + 1) m))) k) ∙ e
+
+-- ---- numbers that are chosen, one at a time
+
+module _ (t : ℕ → Bool) where
+  filter_split : (b : Bool) (xs : List ℕ) (x : ℕ) (rest : List ℕ) → xs ++ cond b (x ∷ rest) rest ≡ (xs ++ cond b (x ∷ []) []) ++ rest
+  filter_split true xs x rest = sym (append_assoc xs (x ∷ []) rest)
+  filter_split false xs x rest = ap (λ ys. ys ++ rest) (sym (append-nil xs))
+
+  pub filter_more : (i n : ℕ) (b : Bool) (so_far now total : List ℕ) → i < n → so_far ++ filter t (range_with_len i (n - i)) ≡ total → b ≡ t i → now ≡ so_far ++ cond b (i ∷ []) [] → now ++ filter t (range_with_len (i + 1) (n - (i + 1))) ≡ total
+  filter_more i n b so_far now total h e test more =
+      let k : n - i ≡ suc (n - (i + 1)) = omega arith in
+      let u : filter t (range_with_len i (n - i)) ≡ cond (t i) (i ∷ filter t (range_with_len (i + 1) (n - (i + 1)))) (filter t (range_with_len (i + 1) (n - (i + 1)))) = rw k refl in
+      ap (λ xs. xs ++ filter t (range_with_len (i + 1) (n - (i + 1)))) (more ∙ ap (λ c. so_far ++ cond c (i ∷ []) []) test)
+      ∙ sym (filter_split (t i) so_far i (filter t (range_with_len (i + 1) (n - (i + 1))))) ∙ ap (λ xs. so_far ++ xs) (sym u) ∙ e

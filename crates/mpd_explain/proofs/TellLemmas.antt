@@ -1,4 +1,4 @@
--- What is told of calls and ranks, where they are and where they aren't.
+-- Calls and ranks, where they are and where they aren't; and the ends of runs.
 use Rattle.std.proofs.Common.{◌≡◌, ℕ, zero, suc, ◌<◌, ◌≤◌, min, Bool, false, ◌&&◌, List, [], ◌∷◌, ◌++◌, length, take, drop, Option, Some, None, slice_get, refl, sym, ap, ◌∙◌, arith, append-nil}
 use Rattle.std.specs.Option.{option_map, option_and_then}
 use Rattle.std.specs.List.{flat_map}
@@ -8,6 +8,7 @@ use Rattle.mpd_model.specs.declared.call.Mode.{Mode}
 use Rattle.mpd_model.specs.declared.call.WaitanyCall.{WaitanyCall}
 use Rattle.mpd_model.specs.declared.step.CallId.{CallId}
 use Rattle.mpd_model.specs.declared.step.Step.{Step}
+use Rattle.mpd_model.specs.declared.outcome.Outcome.{Outcome}
 use Rattle.mpd_model.specs.declared.outcome.Outcome.TheVariants.{Done, Leftovers, Deadlock, Trap}
 use Rattle.mpd_model.specs.script.Program.{Program}
 use Rattle.mpd_model.specs.steps.World.{RankWorld, World, start}
@@ -15,7 +16,9 @@ use Rattle.mpd_model.specs.steps.Next.{next, fold, waits}
 use Rattle.mpd_policy.specs.declared.ending.Ending.{Ending}
 use Rattle.mpd_policy.specs.declared.ending.Ending.TheVariants.{Ended, Cut}
 use Rattle.mpd_explain.specs.Requests.{call_of, request_handles}
-use Rattle.mpd_explain.specs.Explained.{tells_of, told_at, explanation}
+use Rattle.mpd_explain.specs.declared.ends.End.TheVariants as the_end
+use Rattle.mpd_explain.specs.Ends.{has_more, tells_of}
+use Rattle.mpd_explain.specs.Explanations.{bare_end, end_at, end_after}
 
 -- ---- a rank that isn't there
 
@@ -64,20 +67,29 @@ fold_append w [] ys = refl
 fold_append w (a ∷ xs) ys = fold_by (next w a) xs ys (λ v. fold_append v xs ys)
 
 -- behind the steps that lead to a state, those from there lead to the same end
-pub told_behind : (s : Program) (mode : Mode) (before steps : List Step) (w : World) (e : Ending) → fold (start s mode) before ≡ Some w → told_at s (fold w steps) e ≡ explanation s mode (before ++ steps) e
-told_behind s mode before steps w e leads = ap (λ o. told_at s o e) (sym (fold_append (start s mode) before steps ∙ ap (option_and_then (λ v. fold v steps)) leads))
+pub end_behind : (s : Program) (mode : Mode) (before steps : List Step) (w : World) (e : Ending) → fold (start s mode) before ≡ Some w → end_at s (fold w steps) e ≡ end_after s mode (before ++ steps) e
+end_behind s mode before steps w e leads = ap (λ o. end_at s o e) (sym (fold_append (start s mode) before steps ∙ ap (option_and_then (λ v. fold v steps)) leads))
 
-told_none : (s : Program) (o : Option World) (e : Ending) → tells_of e ≡ false → told_at s o e ≡ []
-told_none s None e good = refl
-told_none s (Some w) Cut good = refl
-told_none s (Some w) (Ended Done) good = refl
-told_none s (Some w) (Ended (Leftovers calls)) good = cc
-told_none s (Some w) (Ended (Deadlock blocked)) good = cc
-told_none s (Some w) (Ended (Trap ranks)) good = cc
+-- an end that there is no more to is the same wherever the steps lead
+bare_by : (s : Program) (o : Option World) (e : Ending) → tells_of e ≡ false → bare_end e ≡ end_at s o e
+bare_by s None e h = refl
+bare_by s (Some w) Cut h = refl
+bare_by s (Some w) (Ended Done) h = refl
+bare_by s (Some w) (Ended (Leftovers calls)) h = cc
+bare_by s (Some w) (Ended (Deadlock blocked)) h = cc
+bare_by s (Some w) (Ended (Trap ranks)) h = cc
 
--- of what is no deadlock and no trap, and has no leftovers, nothing is told
-pub untold : (s : Program) (mode : Mode) (steps : List Step) (e : Ending) → tells_of e ≡ false → explanation s mode steps e ≡ []
-untold s mode steps e good = told_none s (fold (start s mode) steps) e good
+pub cut_is_bare : (s : Program) (o : Option World) (e : Ending) → tells_of e ≡ false → e ≡ Cut → the_end.Cut ≡ end_at s o e
+cut_is_bare s o e h is = ap bare_end (sym is) ∙ bare_by s o e h
+
+done_by : (o : Outcome) → has_more o ≡ false → the_end.Done ≡ bare_end (Ended o)
+done_by Done h = refl
+done_by (Leftovers calls) h = cc
+done_by (Deadlock blocked) h = cc
+done_by (Trap ranks) h = cc
+
+pub done_is_bare : (s : Program) (w : Option World) (e : Ending) (o : Outcome) → tells_of e ≡ false → e ≡ Ended o → the_end.Done ≡ end_at s w e
+done_is_bare s w e o h is = done_by o (ap tells_of (sym is) ∙ h) ∙ ap bare_end (sym is) ∙ bare_by s w e h
 
 pub ruleset telling = (no_handles, at_barrier)
 

@@ -1,27 +1,31 @@
--- Worked rows of what is told of runs. What is wanted was worked out by hand.
-use Rattle.std.specs.Prelude.{◌≡◌, ℕ, pos, true, false, map, List, [], ◌∷◌, ◌++◌, Option, Some, None, codes, refl}
-use Rattle.std.specs.Fmt.{digits}
+-- Worked rows of ends. What is wanted was worked out by hand.
+use Rattle.std.specs.Prelude.{◌≡◌, ℕ, pos, Bool, true, false, map, List, [], ◌∷◌, Option, Some, None, codes, refl}
 use Rattle.mpd_model.specs.declared.place.DeclKind.TheVariants.{Variable, Handle}
 use Rattle.mpd_model.specs.declared.expr.BinaryOp.TheVariants.{Equal, Divide}
 use Rattle.mpd_model.specs.declared.call.Mode.TheVariants.{Rendezvous, Buffered}
-use Rattle.mpd_model.specs.declared.call.Trap.TheVariants.{Assertion}
+use Rattle.mpd_model.specs.declared.call.CallKind.{CallKind}
+use Rattle.mpd_model.specs.declared.call.CallKind.TheVariants as on
+use Rattle.mpd_model.specs.declared.call.Trap.TheVariants.{ZeroDivisor}
 use Rattle.mpd_model.specs.declared.stmt.Simple.TheVariants as st
-use Rattle.mpd_model.specs.declared.outcome.Outcome.TheVariants as o
 use Rattle.mpd_model.specs.script.Declaration.{Declared}
 use Rattle.mpd_model.specs.script.Term.{Term, lit, own_rank, cell, op2, Target}
 use Rattle.mpd_model.specs.script.Tree.{Tree, simple, branch, no_more, then_more}
 use Rattle.mpd_model.specs.script.Program.{Program}
 use Rattle.mpd_model.specs.steps.World.{call_id, start}
-use Rattle.mpd_model.specs.steps.Outcomes.{issued_by}
 use Rattle.mpd_model.specs.runs.Decisions.{decision}
-use Rattle.mpd_model.specs.texts.Texts.{line}
-use Rattle.mpd_policy.specs.declared.ending.Ending.{Ending}
-use Rattle.mpd_policy.specs.declared.ending.Ending.TheVariants.{Ended, Cut}
-use Rattle.mpd_explore.specs.declared.report.SearchLeaf as leaf
+use Rattle.mpd_names.specs.declared.holding.Held.TheVariants.{Values}
+use Rattle.mpd_names.specs.declared.place.PlacedCall.{PlacedCall}
+use Rattle.mpd_names.specs.declared.place.Stands.TheVariants as at
 use Rattle.mpd_policy.specs.Walk.{Run, walk}
-use Rattle.mpd_explain.specs.Explained.{explanation}
-use Rattle.mpd_explain.specs.Waits.{round, cycle_line}
-use Rattle.mpd_explain.specs.Told.{firsts, explained_text}
+use Rattle.mpd_explain.specs.declared.near_miss.Miss.{Miss}
+use Rattle.mpd_explain.specs.declared.near_miss.Miss.TheVariants.{Tag}
+use Rattle.mpd_explain.specs.declared.near_miss.Wish.{Wish}
+use Rattle.mpd_explain.specs.declared.ends.AwaitedRank.{AwaitedRank}
+use Rattle.mpd_explain.specs.declared.ends.Wait.{Wait}
+use Rattle.mpd_explain.specs.declared.ends.End.{End}
+use Rattle.mpd_explain.specs.declared.ends.End.TheVariants as the_end
+use Rattle.mpd_explain.specs.Waits.{round, cycle}
+use Rattle.mpd_explain.specs.Explanations.{end_after}
 
 abbrev n : ℕ → Term
 n k = lit (pos k)
@@ -35,6 +39,29 @@ one_variable = record { kind = Variable; name = codes "x"; size = None } ∷ []
 abbrev recv : Option Term → Option Term → Tree
 recv source tag = simple (st.Recv (record { into = x; from = source; tag = tag; status = None }))
 
+-- call i of rank p, issued at this line
+abbrev placed : ℕ → ℕ → ℕ → CallKind → PlacedCall
+placed p i line kind = record { call = call_id p i; line = line; kind = Some kind }
+
+abbrev received : Option ℕ → Option ℕ → Bool → CallKind
+received source tag blocks = on.Recv (record { from = source; tag = tag; cell = 0; status = None; blocks = blocks })
+
+abbrev sent : ℕ → ℕ → ℕ → Bool → Bool → CallKind
+sent to tag value blocks buffered = on.Send (record { to = to; tag = tag; value = pos value; synchronous = false; blocks = blocks; buffered = buffered })
+
+abbrev bare : PlacedCall → Wish
+bare c = record { call = c; nearest = None; taken = None }
+
+abbrev near : PlacedCall → PlacedCall → Miss → Wish
+near c d miss = record { call = c; nearest = Some (record { call = d; miss = miss }); taken = None }
+
+-- whom a rank waits for, and whether it has ended
+abbrev rank_that : ℕ → Bool → List AwaitedRank
+rank_that q ended = record { rank = q; has_ended = ended } ∷ []
+
+abbrev wait : Wish → List Wish → List AwaitedRank → Wait
+wait wish requests awaited = record { wish = wish; requests = requests; absent = []; awaited = awaited }
+
 -- the if on line 4, two receives on lines 5 and 6, a send on line 8
 -- if rank == 0 { recv x from any tag any; recv x from 1 tag 7; } else { send 42 to 0 tag 7; }
 abbrev stolen : Program
@@ -46,9 +73,9 @@ stolen = record {
   lines = 4 ∷ 5 ∷ 6 ∷ 8 ∷ [];
 }
 
-pub row_stolen : map {B = List ℕ} (λ (r : Run). explanation stolen Rendezvous r.steps r.ending) (walk 20 (start stolen Rendezvous))
-    ≡ (line (codes "  rank 0 waits at line 6, 0.1 recv from 1 tag 7: for a send of rank 1 with tag 7") ++ line (codes "    the last that fits is taken: line 8, 1.0 send to 0 tag 7 value 42, by line 5, 0.0 recv from any tag any") ++ line (codes "  rank 0 waits for rank 1 (ended)")) ∷ []
-unfolding walk decision digits
+pub row_stolen : map {B = End} (λ (r : Run). end_after stolen Rendezvous r.steps r.ending) (walk 20 (start stolen Rendezvous)) ≡ the_end.Deadlock
+    (wait (record { call = placed 0 1 6 (received (Some 1) (Some 7) true); nearest = None; taken = Some (record { call = placed 1 0 8 (sent 0 7 42 true false); by = placed 0 0 5 (received None None true) }) }) [] (rank_that 1 true) ∷ []) [] [] ∷ []
+unfolding walk decision
 row_stolen = refl
 
 -- two ranks, each of which waits for a message of the other
@@ -62,9 +89,9 @@ crossed = record {
   lines = 4 ∷ 5 ∷ 7 ∷ [];
 }
 
-pub row_crossed : map {B = List ℕ} (λ (r : Run). explanation crossed Rendezvous r.steps r.ending) (walk 20 (start crossed Rendezvous))
-    ≡ (line (codes "  rank 0 waits at line 5, 0.0 recv from 1 tag 2: for a send of rank 1 with tag 2") ++ line (codes "  rank 1 waits at line 7, 1.0 recv from 0 tag 3: for a send of rank 0 with tag 3") ++ line (codes "  rank 0 waits for rank 1") ++ line (codes "  rank 1 waits for rank 0") ++ line (codes "  a cycle, where each waits for the next: rank 0, rank 1, rank 0")) ∷ []
-unfolding walk decision digits
+pub row_crossed : map {B = End} (λ (r : Run). end_after crossed Rendezvous r.steps r.ending) (walk 20 (start crossed Rendezvous)) ≡ the_end.Deadlock
+    (wait (bare (placed 0 0 5 (received (Some 1) (Some 2) true))) [] (rank_that 1 false) ∷ wait (bare (placed 1 0 7 (received (Some 0) (Some 3) true))) [] (rank_that 0 false) ∷ []) ((0 ∷ 1 ∷ []) ∷ []) [] ∷ []
+unfolding walk decision
 row_crossed = refl
 
 -- a send of another tag than the one that is waited for: of both calls the other is the nearest miss
@@ -78,9 +105,10 @@ missed = record {
   lines = 4 ∷ 5 ∷ 7 ∷ [];
 }
 
-pub row_missed : map {B = List ℕ} (λ (r : Run). explanation missed Rendezvous r.steps r.ending) (walk 20 (start missed Rendezvous))
-    ≡ (line (codes "  rank 0 waits at line 5, 0.0 recv from 1 tag 2: for a send of rank 1 with tag 2") ++ line (codes "    nearest miss: line 7, 1.0 send to 0 tag 1 value 5: another tag") ++ line (codes "  rank 1 waits at line 7, 1.0 send to 0 tag 1 value 5: for a receive of rank 0 from rank 1 with tag 1") ++ line (codes "    nearest miss: line 5, 0.0 recv from 1 tag 2: another tag") ++ line (codes "  rank 0 waits for rank 1") ++ line (codes "  rank 1 waits for rank 0") ++ line (codes "  a cycle, where each waits for the next: rank 0, rank 1, rank 0")) ∷ []
-unfolding walk decision digits
+pub row_missed : map {B = End} (λ (r : Run). end_after missed Rendezvous r.steps r.ending) (walk 20 (start missed Rendezvous)) ≡ the_end.Deadlock
+    (wait (near (placed 0 0 5 (received (Some 1) (Some 2) true)) (placed 1 0 7 (sent 0 1 5 true false)) Tag) [] (rank_that 1 false)
+    ∷ wait (near (placed 1 0 7 (sent 0 1 5 true false)) (placed 0 0 5 (received (Some 1) (Some 2) true)) Tag) [] (rank_that 0 false) ∷ []) ((0 ∷ 1 ∷ []) ∷ []) [] ∷ []
+unfolding walk decision
 row_missed = refl
 
 -- rank 1 skips the barrier that rank 0 waits at
@@ -94,9 +122,9 @@ skipped = record {
   lines = 4 ∷ 5 ∷ 7 ∷ [];
 }
 
-pub row_skipped : map {B = List ℕ} (λ (r : Run). explanation skipped Rendezvous r.steps r.ending) (walk 20 (start skipped Rendezvous))
-    ≡ (line (codes "  rank 0 waits at line 5, 0.0 barrier: for all ranks at a barrier") ++ line (codes "    rank 1 is not there: it has ended") ++ line (codes "  rank 0 waits for rank 1 (ended)")) ∷ []
-unfolding walk decision digits
+pub row_skipped : map {B = End} (λ (r : Run). end_after skipped Rendezvous r.steps r.ending) (walk 20 (start skipped Rendezvous)) ≡ the_end.Deadlock
+    (record { wish = bare (placed 0 0 5 on.Barrier); requests = []; absent = record { rank = 1; stands = Some at.Ended } ∷ []; awaited = rank_that 1 true } ∷ []) [] [] ∷ []
+unfolding walk decision
 row_skipped = refl
 
 -- rank 1 divides by zero on line 7
@@ -110,8 +138,8 @@ divided = record {
   lines = 4 ∷ 5 ∷ 7 ∷ [];
 }
 
-pub row_divided : map {B = List ℕ} (λ (r : Run). explanation divided Rendezvous r.steps r.ending) (walk 20 (start divided Rendezvous)) ≡ line (codes "  rank 1, line 7: trap zero-divisor") ∷ []
-unfolding walk decision digits
+pub row_divided : map {B = End} (λ (r : Run). end_after divided Rendezvous r.steps r.ending) (walk 20 (start divided Rendezvous)) ≡ the_end.Trap (record { rank = 1; line = 7; trap = ZeroDivisor; reads = [] } ∷ []) ∷ []
+unfolding walk decision
 row_divided = refl
 
 -- rank 1 divides by what x holds, and then would print x
@@ -125,8 +153,8 @@ divided_by = record {
   lines = 4 ∷ 5 ∷ 7 ∷ 8 ∷ [];
 }
 
-pub row_divided_by : map {B = List ℕ} (λ (r : Run). explanation divided_by Rendezvous r.steps r.ending) (walk 20 (start divided_by Rendezvous)) ≡ line (codes "  rank 1, line 7: trap zero-divisor, with x = 0") ∷ []
-unfolding walk decision digits
+pub row_divided_by : map {B = End} (λ (r : Run). end_after divided_by Rendezvous r.steps r.ending) (walk 20 (start divided_by Rendezvous)) ≡ the_end.Trap (record { rank = 1; line = 7; trap = ZeroDivisor; reads = record { declaration = 0; held = Values (pos 0 ∷ []) } ∷ [] } ∷ []) ∷ []
+unfolding walk decision
 row_divided_by = refl
 
 -- two messages that nobody receives: with buffers they are left over, and else the first one blocks its rank
@@ -140,8 +168,8 @@ unread = record {
   lines = 4 ∷ 5 ∷ 6 ∷ 8 ∷ [];
 }
 
-pub row_unread : map {B = List ℕ} (λ (r : Run). explanation unread Buffered r.steps r.ending) (walk 20 (start unread Buffered)) ≡ (line (codes "  left over: line 5, 0.0 send to 1 tag 1 value 5") ++ line (codes "  left over: line 6, 0.1 send to 1 tag 2 value 6")) ∷ []
-unfolding walk decision digits
+pub row_unread : map {B = End} (λ (r : Run). end_after unread Buffered r.steps r.ending) (walk 20 (start unread Buffered)) ≡ the_end.Leftovers (placed 0 0 5 (sent 1 1 5 true true) ∷ placed 0 1 6 (sent 1 2 6 true true) ∷ []) ∷ []
+unfolding walk decision
 row_unread = refl
 
 -- rank 0 waits for its second request; its first, and a message of rank 1 that nobody receives, are left over
@@ -164,9 +192,10 @@ beside = record {
   lines = 4 ∷ 5 ∷ 6 ∷ 7 ∷ 9 ∷ [];
 }
 
-pub row_beside : map {B = List ℕ} (λ (r : Run). explanation beside Rendezvous r.steps r.ending) (walk 20 (start beside Rendezvous))
-    ≡ (line (codes "  rank 0 waits at line 7, 0.2 wait 1: for request 0.1") ++ line (codes "    line 6, 0.1 irecv from 1 tag 9: for a send of rank 1 with tag 9") ++ line (codes "    nearest miss: line 9, 1.0 isend to 0 tag 3 value 5: another tag") ++ line (codes "  rank 0 waits for rank 1 (ended)") ++ line (codes "  left over: line 5, 0.0 irecv from 1 tag 8") ++ line (codes "  left over: line 9, 1.0 isend to 0 tag 3 value 5")) ∷ []
-unfolding walk decision digits
+pub row_beside : map {B = End} (λ (r : Run). end_after beside Rendezvous r.steps r.ending) (walk 20 (start beside Rendezvous)) ≡ the_end.Deadlock
+    (wait (bare (placed 0 2 7 (on.Wait (record { handle = 1; target = Some 1 })))) (near (placed 0 1 6 (received (Some 1) (Some 9) false)) (placed 1 0 9 (sent 0 3 5 false false)) Tag ∷ []) (rank_that 1 true) ∷ [])
+    [] (placed 0 0 5 (received (Some 1) (Some 8) false) ∷ placed 1 0 9 (sent 0 3 5 false false) ∷ []) ∷ []
+unfolding walk decision
 row_beside = refl
 
 -- ---- cycles: ranks 1, 3 and 2 wait for one another, rank 0 for rank 1, rank 4 for no one rank
@@ -177,51 +206,5 @@ next = Some 1 ∷ Some 3 ∷ Some 1 ∷ Some 2 ∷ None ∷ []
 pub row_round : map {B = Option ℕ} (round next) (0 ∷ 1 ∷ 2 ∷ 3 ∷ 4 ∷ []) ≡ None ∷ Some 3 ∷ Some 3 ∷ Some 3 ∷ None ∷ []
 row_round = refl
 
-pub row_cycle : map {B = List ℕ} (cycle_line next) (0 ∷ 1 ∷ 2 ∷ 3 ∷ 4 ∷ []) ≡ [] ∷ line (codes "  a cycle, where each waits for the next: rank 1, rank 3, rank 2, rank 1") ∷ [] ∷ [] ∷ [] ∷ []
-unfolding digits
+pub row_cycle : map {B = Option (List ℕ)} (cycle next) (0 ∷ 1 ∷ 2 ∷ 3 ∷ 4 ∷ []) ≡ None ∷ Some (1 ∷ 3 ∷ 2 ∷ []) ∷ None ∷ None ∷ None ∷ []
 row_cycle = refl
-
--- ---- reports
-
-abbrev a_leaf : ℕ → Ending → leaf.SearchLeaf
-a_leaf choice e = record { choices = choice ∷ []; ending = e }
-
-abbrev stuck : Ending
-stuck = Ended (o.Deadlock (issued_by 3 (call_id 0 1) ∷ []))
-
-abbrev four : List leaf.SearchLeaf
-four = a_leaf 0 (Ended o.Done) ∷ a_leaf 1 stuck ∷ a_leaf 2 (Ended o.Done) ∷ a_leaf 3 Cut ∷ []
-
-pub row_firsts : firsts (codes "done" ∷ codes "cut" ∷ codes "done" ∷ codes "deadlock 0.1" ∷ codes "cut" ∷ []) ≡ 0 ∷ 1 ∷ 3 ∷ []
-row_firsts = refl
-
--- the texts of leaf 1 stand after its line
-pub row_leaves : explained_text false ([] ∷ line (codes ": local 0") ∷ []) ([] ∷ line (codes "  told") ∷ []) four true
-    ≡ line (codes "leaf 0 [0] done") ++ line (codes "leaf 1 [1] deadlock 0.1") ++ line (codes "witness 1: local 0") ++ line (codes "  told") ++ line (codes "leaf 2 [2] done") ++ line (codes "leaf 3 [3] cut") ++ line (codes "leaves 4 more yes")
-unfolding digits
-row_leaves = refl
-
--- two leaves end as the first does
-pub row_groups : explained_text true ([] ∷ line (codes ": local 0") ∷ []) ([] ∷ line (codes "  told") ∷ []) four false
-    ≡ line (codes "end 0 leaves 2 first 0 done") ++ line (codes "end 1 leaves 1 first 1 deadlock 0.1") ++ line (codes "witness 1: local 0") ++ line (codes "  told") ++ line (codes "end 2 leaves 1 first 3 cut") ++ line (codes "leaves 4 more no")
-unfolding digits
-row_groups = refl
-
--- the same call blocks at another line, the same rank traps so at another line, the same message is left over of another: each is an end of its own
-abbrev failing : ℕ → Ending
-failing s = Ended (o.Trap (record { rank = 0; trap = Assertion; statement = s } ∷ []))
-
-abbrev unread_by : ℕ → Ending
-unread_by s = Ended (o.Leftovers (issued_by s (call_id 0 1) ∷ []))
-
-abbrev stuck_at : ℕ → Ending
-stuck_at s = Ended (o.Deadlock (issued_by s (call_id 0 1) ∷ []))
-
-abbrev elsewhere : List leaf.SearchLeaf
-elsewhere = a_leaf 0 stuck ∷ a_leaf 1 (stuck_at 4) ∷ a_leaf 2 (failing 1) ∷ a_leaf 3 (failing 2) ∷ a_leaf 4 (unread_by 1) ∷ a_leaf 5 (unread_by 2) ∷ a_leaf 6 (stuck_at 4) ∷ a_leaf 7 (failing 1) ∷ []
-
-pub row_elsewhere : explained_text true [] ([] ∷ line (codes "  told") ∷ []) elsewhere false
-    ≡ line (codes "end 0 leaves 1 first 0 deadlock 0.1") ++ line (codes "end 1 leaves 2 first 1 deadlock 0.1") ++ line (codes "  told") ++ line (codes "end 2 leaves 2 first 2 trap 0 assert") ++ line (codes "end 3 leaves 1 first 3 trap 0 assert")
-    ++ line (codes "end 4 leaves 1 first 4 leftovers 0.1") ++ line (codes "end 5 leaves 1 first 5 leftovers 0.1") ++ line (codes "leaves 8 more no")
-unfolding digits
-row_elsewhere = refl

@@ -1,24 +1,41 @@
--- The explanations of the leaves of a report. What comes next in a state is told by a function, as in the walk that listed them.
-use Rattle.std.specs.Prelude.{ℕ, Bool, true, false, List, [], ◌++◌, map}
+-- The ends of the leaves of a report. What comes next in a state is told by a function, as in the walk that listed them.
+use Rattle.std.specs.Prelude.{ℕ, List, [], ◌++◌, map, Option, Some, None}
 use Rattle.mpd_model.specs.declared.step.Step.{Step}
 use Rattle.mpd_model.specs.declared.decision.Decision.{Decision}
 use Rattle.mpd_model.specs.declared.call.Mode.{Mode}
+use Rattle.mpd_model.specs.declared.outcome.Outcome.TheVariants.{Done, Leftovers, Deadlock, Trap}
 use Rattle.mpd_model.specs.script.Program.{Program}
-use Rattle.mpd_model.specs.steps.World.{World}
-use Rattle.mpd_model.specs.runs.Trail.{Standing, done_steps}
-use Rattle.mpd_explore.specs.declared.report.SearchLeaf.{SearchLeaf}
+use Rattle.mpd_model.specs.steps.World.{World, start}
+use Rattle.mpd_model.specs.steps.Next.{fold}
+use Rattle.mpd_policy.specs.declared.ending.Ending.{Ending}
+use Rattle.mpd_policy.specs.declared.ending.Ending.TheVariants.{Ended, Cut}
 use Rattle.mpd_policy.specs.Walk.{run_by, steps_by}
-use Rattle.mpd_explain.specs.Explained.{explanation}
+use Rattle.mpd_explore.specs.declared.report.SearchLeaf.{SearchLeaf}
+use Rattle.mpd_explain.specs.declared.ends.End.{End}
+use Rattle.mpd_explain.specs.declared.ends.End.TheVariants as the_end
+use Rattle.mpd_explain.specs.Ends.{end_of}
 
--- that of a leaf from a state, with so much fuel, after some steps: empty where it is no deadlock and no trap
-abbrev pub explanation_of : (World → Decision) → Program → Mode → List Step → ℕ → World → SearchLeaf → List ℕ
-explanation_of decide s mode before fuel w l = explanation s mode (before ++ steps_by (run_by decide fuel l.choices w)) l.ending
+-- an end of which nothing but its kind is known: that of a run that leads nowhere
+abbrev pub bare_end : Ending → End
+bare_end Cut = the_end.Cut
+bare_end (Ended Done) = the_end.Done
+bare_end (Ended (Leftovers calls)) = the_end.Leftovers []
+bare_end (Ended (Deadlock calls)) = the_end.Deadlock [] [] []
+bare_end (Ended (Trap ranks)) = the_end.Trap []
+
+-- the end of a run that ends so where its steps lead
+abbrev pub end_at : Program → Option World → Ending → End
+end_at s None e = bare_end e
+end_at s (Some w) e = end_of s w e
+
+-- the end of a run that has these steps from the start of a script
+abbrev pub end_after : Program → Mode → List Step → Ending → End
+end_after s mode steps e = end_at s (fold (start s mode) steps) e
+
+-- that of a leaf from a state, with so much fuel, after some steps
+abbrev pub end_of_leaf : (World → Decision) → Program → Mode → List Step → ℕ → World → SearchLeaf → End
+end_of_leaf decide s mode before fuel w l = end_after s mode (before ++ steps_by (run_by decide fuel l.choices w)) l.ending
 
 -- those of all leaves
-abbrev pub explanations : (World → Decision) → Program → Mode → List Step → ℕ → World → List SearchLeaf → List (List ℕ)
-explanations decide s mode before fuel w leaves = map (explanation_of decide s mode before fuel w) leaves
-
--- those of leaves from where a debugger stands, where they are asked for
-abbrev pub explained_at : (World → Decision) → Bool → ℕ → Standing → List SearchLeaf → List (List ℕ)
-explained_at decide false fuel d leaves = []
-explained_at decide true fuel d leaves = explanations decide d.trail.program d.trail.mode (done_steps d.trail) fuel d.world leaves
+abbrev pub ends_of_leaves : (World → Decision) → Program → Mode → List Step → ℕ → World → List SearchLeaf → List End
+ends_of_leaves decide s mode before fuel w leaves = map (end_of_leaf decide s mode before fuel w) leaves

@@ -1,6 +1,5 @@
--- What is told of each kind of call. A kind that joins joins the list below.
-use Rattle.std.specs.Prelude.{◌≡◌, ℕ, pos, Bool, true, false, map, List, [], ◌∷◌, ◌++◌, Option, Some, None, codes, refl}
-use Rattle.std.specs.Fmt.{digits}
+-- What each kind of call may wait for. A kind that joins joins the list below.
+use Rattle.std.specs.Prelude.{◌≡◌, ℕ, pos, Bool, true, false, map, List, [], ◌∷◌, ◌++◌, Option, Some, None, refl}
 use Rattle.mpd_model.specs.declared.step.CallId.{CallId}
 use Rattle.mpd_model.specs.declared.call.Activity.TheVariants.{Blocked}
 use Rattle.mpd_model.specs.declared.call.CallKind.{CallKind}
@@ -11,8 +10,7 @@ use Rattle.mpd_explain.specs.declared.near_miss.Miss.{Miss}
 use Rattle.mpd_explain.specs.declared.near_miss.Miss.TheVariants.{Tag, Source, Destination}
 use Rattle.mpd_explain.specs.Requests.{requests}
 use Rattle.mpd_explain.specs.Missed.{missing, nearest_of, is_at_once}
-use Rattle.mpd_explain.specs.Waits.{is_partner, several_words}
-use Rattle.mpd_explain.specs.Explained.{wish, request_wish}
+use Rattle.mpd_explain.specs.Waits.{is_partner}
 
 -- a send to rank 1, a synchronous one to rank 2, a receive from rank 1, one of any source, a wait, a waitany, a barrier, and where
 -- there is no call
@@ -68,26 +66,9 @@ row_at_once = refl
 pub row_buffered : is_at_once (Some (Send (record { to = 1; tag = 2; value = pos 3; synchronous = false; blocks = false; buffered = true }))) ≡ true
 row_buffered = refl
 
--- whether all of some ranks are wanted, or any of them would do
-pub row_several : map {B = List ℕ} (λ k. several_words k (1 ∷ 2 ∷ [])) calls
-    ≡ codes "any of " ∷ codes "any of " ∷ codes "any of " ∷ codes "any of " ∷ codes "any of " ∷ codes "any of " ∷ codes "all of " ∷ codes "any of " ∷ []
-row_several = refl
-
-pub row_one : map {B = List ℕ} (λ k. several_words k (1 ∷ [])) calls ≡ [] ∷ [] ∷ [] ∷ [] ∷ [] ∷ [] ∷ [] ∷ [] ∷ []
-row_one = refl
-
-pub row_request : request_wish 3 None ≡ codes "for no request"
-row_request = refl
-
 -- whether a call of rank 0 waits for rank 1, and for rank 0
 pub row_partner : map {B = Bool} (λ k. is_partner 0 k 1) calls ≡ true ∷ false ∷ true ∷ true ∷ false ∷ false ∷ false ∷ false ∷ []
 row_partner = refl
 
 pub row_itself : map {B = Bool} (λ k. is_partner 0 k 0) calls ≡ false ∷ false ∷ false ∷ false ∷ false ∷ false ∷ false ∷ false ∷ []
 row_itself = refl
-
-pub row_wish : map {B = List ℕ} (wish 0) calls
-    ≡ codes "for a receive of rank 1 from rank 0 with tag 2" ∷ codes "for a receive of rank 2 from rank 0 with tag 5" ∷ codes "for a send of rank 1 with tag 2" ∷ codes "for a send of any rank with any tag"
-    ∷ codes "for request 0.5" ∷ codes "for one of these requests" ∷ codes "for all ranks at a barrier" ∷ codes "for nothing" ∷ []
-unfolding digits
-row_wish = refl

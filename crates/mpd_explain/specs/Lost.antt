@@ -1,6 +1,5 @@
 -- Requests that are lost: nobody can wait for them any more (docs/CONSOLE.md, "Answers").
-use Rattle.std.specs.Prelude.{ℕ, Bool, true, false, ◌&&◌, ◌||◌, ◌==◌, not, nat_lt, if◌then◌else◌, List, [], ◌∷◌, ◌++◌, length, slice_get, Option, Some, None, codes}
-use Rattle.std.specs.Fmt.{decimal}
+use Rattle.std.specs.Prelude.{ℕ, Bool, true, false, ◌&&◌, ◌||◌, ◌==◌, not, if◌then◌else◌, List, [], ◌∷◌, length, slice_get, Option, Some, None}
 use Rattle.std.specs.List.{filter, flat_map, list_any}
 use Rattle.mpd_model.specs.declared.step.CallId.{CallId}
 use Rattle.mpd_model.specs.declared.call.Call.{Call}
@@ -11,8 +10,8 @@ use Rattle.mpd_model.specs.steps.World.{RankWorld, World, Board, call_id, call_a
 use Rattle.mpd_model.specs.steps.Next.{blocks}
 use Rattle.mpd_model.specs.steps.Why.{first_in}
 use Rattle.mpd_model.specs.runs.Breakpoints.{is_number}
-use Rattle.mpd_model.specs.texts.Texts.{line, id_text}
-use Rattle.mpd_names.specs.Placed.{issue_line, kind_words, placed}
+use Rattle.mpd_names.specs.Placed.{issue_line, placed_call_of}
+use Rattle.mpd_explain.specs.declared.lost.Loss.{Loss}
 
 -- a call that its rank doesn't wait for as it issues it
 abbrev pub is_request : Option CallKind → Bool
@@ -70,43 +69,24 @@ first_beside s b c ds = first_in (filter (is_beside s b c) ds)
 abbrev pub count_beside : Program → Board → CallId → List CallId → ℕ
 count_beside s b c ds = length (filter (is_beside s b c) ds)
 
-abbrev pub one_words : Program → Board → CallId → List ℕ
-one_words s b c = codes " has lost a request: " ++ placed s b c
-
-abbrev pub many_words : ℕ → List ℕ
-many_words count = codes " has lost " ++ decimal count
-
-abbrev pub of_line_words : ℕ → List ℕ
-of_line_words number = codes " requests of line " ++ decimal number
-
-abbrev pub first_words : Board → CallId → List ℕ
-first_words b c = codes ", the first " ++ id_text c ++ kind_words (kind_at b c)
-
-abbrev pub several_words : Program → Board → ℕ → CallId → List ℕ
-several_words s b count c = many_words count ++ of_line_words (issue_line s.lines (call_at b c)) ++ first_words b c
-
--- `rank 0 has lost a request: line 4, 0.0 isend to 1 tag 7 value 5`
--- `rank 0 has lost 3 requests of line 4, the first 0.0 isend to 1 tag 7 value 5`
-abbrev pub lost_line : Program → Board → ℕ → CallId → List ℕ
-lost_line s b count c = line (codes "rank " ++ decimal c.rank ++ (if nat_lt 1 count then several_words s b count c else one_words s b c))
+-- the requests of the rank and the line of a call
+abbrev pub loss_of : Program → Board → List CallId → CallId → Loss
+loss_of s b calls c = record { first = placed_call_of s b c; count = count_beside s b c calls }
 
 -- of some calls each line is told at its first, unless one of it was lost before
-abbrev pub lost_entry : Program → Board → List CallId → List CallId → CallId → List ℕ
-lost_entry s b before calls c = if is_this c (first_beside s b c calls) && not (list_any (is_beside s b c) before) then lost_line s b (count_beside s b c calls) c else []
+abbrev pub loss_at : Program → Board → List CallId → List CallId → CallId → List Loss
+loss_at s b before calls c = if is_this c (first_beside s b c calls) && not (list_any (is_beside s b c) before) then loss_of s b calls c ∷ [] else []
 
-abbrev pub lost_told : Program → Board → List CallId → List CallId → List ℕ
-lost_told s b before calls = flat_map (lost_entry s b before calls) calls
+abbrev pub losses : Program → Board → List CallId → List CallId → List Loss
+losses s b before calls = flat_map (loss_at s b before calls) calls
 
 -- those of a rank, in the order of issue
 abbrev pub lost_calls_of : World → ℕ → List CallId
 lost_calls_of w p = flat_map (λ i. call_id p i ∷ []) (filter (λ i. is_lost w (call_id p i)) (call_numbers w.board p))
 
-abbrev pub lost_text : Program → World → ℕ → List ℕ
-lost_text s w p = lost_told s w.board [] (lost_calls_of w p)
-
 -- and those of all ranks
 abbrev pub lost_calls : World → List CallId
 lost_calls w = flat_map (lost_calls_of w) (rank_numbers w.board)
 
-abbrev pub lost_lines : Program → World → List ℕ
-lost_lines s w = lost_told s w.board [] (lost_calls w)
+abbrev pub all_losses : Program → World → List Loss
+all_losses s w = losses s w.board [] (lost_calls w)

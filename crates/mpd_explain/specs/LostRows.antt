@@ -1,7 +1,5 @@
 -- Worked rows of requests that are lost. What is wanted was worked out by hand.
-use Rattle.std.specs.Prelude.{◌≡◌, ℕ, pos, Bool, true, false, map, List, [], ◌∷◌, Option, Some, None, codes, refl}
-use Rattle.std.specs.Fmt.{digits}
-use Rattle.std.specs.List.{flat_map}
+use Rattle.std.specs.Prelude.{◌≡◌, ℕ, pos, Bool, true, false, map, List, [], ◌∷◌, Option, Some, None, refl}
 use Rattle.mpd_model.specs.declared.call.Activity.TheVariants.{Running}
 use Rattle.mpd_model.specs.declared.call.Call.{Call}
 use Rattle.mpd_model.specs.declared.call.CallKind.{CallKind}
@@ -12,8 +10,9 @@ use Rattle.mpd_model.specs.declared.stmt.Simple.TheVariants as st
 use Rattle.mpd_model.specs.script.Tree.{simple}
 use Rattle.mpd_model.specs.script.Program.{Program}
 use Rattle.mpd_model.specs.steps.World.{RankWorld, World, call_id}
-use Rattle.mpd_model.specs.texts.Texts.{line}
-use Rattle.mpd_explain.specs.Lost.{is_lost, lost_lines, lost_told}
+use Rattle.mpd_names.specs.declared.place.PlacedCall.{PlacedCall}
+use Rattle.mpd_explain.specs.declared.lost.Loss.{Loss}
+use Rattle.mpd_explain.specs.Lost.{is_lost, all_losses, losses}
 
 -- statement k stands on line k + 10
 abbrev script : Program
@@ -55,9 +54,11 @@ pub row_lost : map {B = List Bool} (map (is_lost here)) ((call_id 0 0 ∷ call_i
     ≡ (false ∷ true ∷ false ∷ false ∷ false ∷ true ∷ false ∷ []) ∷ (false ∷ false ∷ true ∷ []) ∷ (false ∷ []) ∷ []
 row_lost = refl
 
-pub row_lines : lost_lines script here
-    ≡ flat_map line (codes "rank 0 has lost a request: line 11, 0.1 isend to 1 tag 7 value 5" ∷ codes "rank 0 has lost a request: line 15, 0.5 irecv from any tag 7" ∷ codes "rank 1 has lost a request: line 15, 1.2 irecv from any tag 7" ∷ [])
-unfolding digits
+-- so many requests of rank p, of which the first is call i, issued at this line
+abbrev lost : ℕ → ℕ → ℕ → CallKind → ℕ → Loss
+lost p i line kind count = record { first = record { call = call_id p i; line = line; kind = Some kind }; count = count }
+
+pub row_lines : all_losses script here ≡ lost 0 1 11 (send 1 false) 1 ∷ lost 0 5 15 irecv 1 ∷ lost 1 2 15 irecv 1 ∷ []
 row_lines = refl
 
 -- ---- a line each: rank 0 has lost three requests of line 11, and one of line 12; rank 1 two of line 11
@@ -74,15 +75,11 @@ many = record {
   };
 }
 
-pub row_many : lost_lines script many
-    ≡ flat_map line (codes "rank 0 has lost 3 requests of line 11, the first 0.0 isend to 1 tag 7 value 5" ∷ codes "rank 0 has lost a request: line 12, 0.1 irecv from any tag 7" ∷ codes "rank 1 has lost 2 requests of line 11, the first 1.0 irecv from any tag 7" ∷ [])
-unfolding digits
+pub row_many : all_losses script many ≡ lost 0 0 11 (send 1 false) 3 ∷ lost 0 1 12 irecv 1 ∷ lost 1 0 11 irecv 2 ∷ []
 row_many = refl
 
 -- a request of line 11 of rank 0 was lost before
-pub row_before : lost_told script many.board (call_id 0 2 ∷ []) (call_id 0 1 ∷ call_id 0 2 ∷ call_id 0 3 ∷ call_id 1 1 ∷ [])
-    ≡ flat_map line (codes "rank 0 has lost a request: line 12, 0.1 irecv from any tag 7" ∷ codes "rank 1 has lost a request: line 11, 1.1 irecv from any tag 7" ∷ [])
-unfolding digits
+pub row_before : losses script many.board (call_id 0 2 ∷ []) (call_id 0 1 ∷ call_id 0 2 ∷ call_id 0 3 ∷ call_id 1 1 ∷ []) ≡ lost 0 1 12 irecv 1 ∷ lost 1 1 11 irecv 1 ∷ []
 row_before = refl
 
 -- a send that is complete is not lost, and a receive that is is

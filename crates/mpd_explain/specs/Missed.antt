@@ -1,5 +1,5 @@
 -- What nearly fits a call that waits, and what would have fitted it.
-use Rattle.std.specs.Prelude.{ℕ, Bool, true, false, ◌||◌, ◌==◌, if◌then◌else◌, List, [], ◌∷◌, slice_get, Option, Some, None, codes}
+use Rattle.std.specs.Prelude.{ℕ, Bool, true, false, ◌||◌, ◌==◌, if◌then◌else◌, List, [], ◌∷◌, slice_get, Option, Some, None}
 use Rattle.std.specs.List.{filter, flat_map, list_any}
 use Rattle.mpd_model.specs.declared.step.CallId.{CallId}
 use Rattle.mpd_model.specs.declared.call.CallKind.{CallKind}
@@ -100,11 +100,6 @@ due w c = flat_map (due_at w c) (rank_numbers w.board)
 -- the nearest of those that are due, else of all
 abbrev pub nearest : World → CallId → Option (CallId × Miss)
 nearest w c = or_else (nearest_of (kind_at w.board c) (due w c)) (nearest_of (kind_at w.board c) (misses w.board c))
-
-abbrev pub miss_text : Miss → List ℕ
-miss_text Tag = codes "another tag"
-miss_text Source = codes "another source"
-miss_text Destination = codes "another destination"
 
 -- ---- what was taken by another
 

@@ -1,46 +1,41 @@
--- Steps in words: the trace word of a step, and the lines that it is about, on the state before it (docs/CONSOLE.md, "Steps in words").
-use Rattle.std.specs.Prelude.{ℕ, List, [], ◌++◌, slice_get, Option, Some, None, codes}
-use Rattle.std.specs.Fmt.{decimal}
+-- Steps with the calls and lines that they are about, on the state before them.
+use Rattle.std.specs.Prelude.{ℕ, List, map, slice_get, Option, Some, None}
+use Rattle.std.specs.Option.{option_map}
 use Rattle.mpd_model.specs.declared.step.CallId.{CallId}
 use Rattle.mpd_model.specs.declared.step.Step.{Step}
 use Rattle.mpd_model.specs.declared.step.Step.TheVariants.{Local, Match, Wake, WakeAny, Release}
 use Rattle.mpd_model.specs.script.Program.{Program}
-use Rattle.mpd_model.specs.steps.World.{World, Board, call_at, last_call}
-use Rattle.mpd_model.specs.steps.Next.{any_call}
-use Rattle.mpd_model.specs.texts.Texts.{step_text}
-use Rattle.mpd_names.specs.Placed.{issue_line, rank_line, placed, issuer}
+use Rattle.mpd_model.specs.steps.World.{World, buffer, last_call}
+use Rattle.mpd_model.specs.steps.Next.{any_call, any_handle, enabled}
+use Rattle.mpd_names.specs.declared.place.PlacedCall.{PlacedCall}
+use Rattle.mpd_names.specs.Placed.{rank_line, placed_call_of}
+use Rattle.mpd_explain.specs.declared.steps.Completed.{Completed}
+use Rattle.mpd_explain.specs.declared.steps.PlacedStep.{PlacedStep}
+use Rattle.mpd_explain.specs.declared.steps.PlacedStep.TheVariants as at
 
--- the line that a rank stands at, and that of the call which it issued last
-abbrev pub line_of : Program → World → ℕ → ℕ
-line_of s w p = rank_line s.lines (slice_get w.ranks p)
+-- the request of an index of the waitany that rank p has issued last, by its call
+abbrev pub completed_of : Program → World → ℕ → ℕ → CallId → Completed
+completed_of s w p i c = record { handle = any_handle w p i; call = placed_call_of s w.board c; got = buffer w.board c }
 
-abbrev pub call_line_of : Program → Board → CallId → ℕ
-call_line_of s b c = issue_line s.lines (call_at b c)
+abbrev pub placed_step_of : Program → World → Step → PlacedStep
+placed_step_of s w (Local p) = at.Local p (rank_line s.lines (slice_get w.ranks p))
+placed_step_of s w (Match c d) = at.Match (placed_call_of s w.board c) (placed_call_of s w.board d)
+placed_step_of s w (Wake p) = at.Wake (placed_call_of s w.board (last_call w.board p))
+placed_step_of s w (WakeAny p i) = at.WakeAny (placed_call_of s w.board (last_call w.board p)) i (option_map (completed_of s w p i) (any_call w p i))
+placed_step_of s w Release = at.Release
 
--- `local 1: line 5`
-abbrev pub at_line : Step → ℕ → List ℕ
-at_line a number = step_text a ++ codes ": line " ++ decimal number
+abbrev pub step_of : PlacedStep → Step
+step_of (at.Local p line) = Local p
+step_of (at.Match c d) = Match c.call d.call
+step_of (at.Wake c) = Wake c.call.rank
+step_of (at.WakeAny c i r) = WakeAny c.call.rank i
+step_of at.Release = Release
 
--- ` of rank 1, line 5`
-abbrev pub issued : Program → Board → CallId → List ℕ
-issued s b c = codes " of " ++ issuer s b c
+-- the call that a candidate is chosen for: the receive of a match, and the waitany that a rank goes on from
+abbrev pub chooser : PlacedStep → Option PlacedCall
+chooser (at.Match c d) = Some d
+chooser (at.WakeAny c i r) = Some c
+chooser other = None
 
--- `match 0.0 1.0: rank 0, line 4, to rank 1, line 7`
-abbrev pub match_words : Program → Board → CallId → CallId → List ℕ
-match_words s b c d = step_text (Match c d) ++ codes ": " ++ issuer s b c ++ codes ", to " ++ issuer s b d
-
--- `, by line 4, 0.1 irecv from any tag any`, the request that a rank goes on by, where it has a call
-abbrev pub by_words : Program → Board → Option CallId → List ℕ
-by_words s b None = []
-by_words s b (Some c) = codes ", by " ++ placed s b c
-
--- `wakeany 0 1: line 6, by line 4, 0.1 irecv from any tag any`
-abbrev pub any_words : Program → World → ℕ → ℕ → List ℕ
-any_words s w p i = at_line (WakeAny p i) (call_line_of s w.board (last_call w.board p)) ++ by_words s w.board (any_call w p i)
-
-abbrev pub step_words : Program → World → Step → List ℕ
-step_words s w (Local p) = at_line (Local p) (line_of s w p)
-step_words s w (Match c d) = match_words s w.board c d
-step_words s w (Wake p) = at_line (Wake p) (call_line_of s w.board (last_call w.board p))
-step_words s w (WakeAny p i) = any_words s w p i
-step_words s w Release = codes "release: all ranks leave the barrier"
+abbrev pub enabled_steps : Program → World → List PlacedStep
+enabled_steps s w = map (placed_step_of s w) (enabled w)

@@ -1,36 +1,41 @@
-//! What people are told of a state and of a run: steps in words, ranks, calls and why a call isn't matched, requests that are lost; why a
-//! run ended in a deadlock or a trap and what it left over; and reports with what is told, or grouped by ends.
+//! What is known of a state and of a run, as values, and what people are told of it: steps with what they are about, where ranks stand, why
+//! a call isn't matched, requests that are lost, why a run ended in a deadlock or a trap and what it left over.
 #![tactic(auto)]
 
-pub mod candidates;
+pub mod ends;
 pub mod explanation;
-pub mod grouped;
-mod groups;
 pub mod history;
 pub mod laws;
 mod left;
 mod list;
+pub mod look_words;
 pub mod looks;
 pub mod lost;
-mod near_miss;
-pub mod place;
-pub mod print;
+pub mod near_miss;
+pub mod position;
 pub mod request_calls;
-pub mod sentences;
 pub mod steps;
-mod waits;
+pub mod waits;
 pub mod why;
+pub mod words;
 
-pub use candidates::push_candidate;
+pub use ends::{
+    Absence, AbsenceList, AwaitedRank, AwaitedRankList, CycleList, End, PlacedList, TrapPlace,
+    TrapPlaceList, Wait, WaitList, WishList, absences, end_of, outcome_end, tells_of,
+};
 pub use explanation::{explain, explain_all};
-pub use grouped::{Beside, explanation_at, print_grouped};
-pub use history::{push_history, push_words};
+pub use history::history_of;
 pub use laws::calls_name_their_statements;
-pub use looks::{push_call, push_calls, push_enabled, push_queues, push_ranks};
-pub use lost::{lost_calls, push_all_lost, push_lost, push_lost_told};
-pub use place::push_standing;
-pub use print::{firsts, print_explained, push_behind, text_at};
+pub use look_words::{
+    push_call, push_calls, push_enabled, push_history, push_position, push_queues, push_ranks,
+    push_why, push_why_rank, push_why_ranks, push_words,
+};
+pub use looks::{pending_calls, posted_calls};
+pub use lost::{Loss, LossList, all_losses, losses, losses_of, lost_calls};
+pub use near_miss::{Miss, NearMiss, TakenCall, Wish, wish_of};
+pub use position::{Ahead, Coming, Position, position_of};
 pub use request_calls::requests;
-pub use sentences::{push_all_absent, push_helps, push_told, push_wish};
-pub use steps::push_step;
-pub use why::{push_why, push_why_rank, push_why_ranks};
+pub use steps::{Completed, PlacedStep, PlacedStepList, enabled_steps, placed_step, placed_steps};
+pub use waits::Cycle;
+pub use why::{Chances, Fit, FitList, Partner, PartnerList, Why, why_of};
+pub use words::{WaitsFor, push_candidate, push_end, push_losses};

@@ -1,16 +1,8 @@
 //! Lists that grow.
 
-ghost use Rattle.std.specs.Prelude.{◌≡◌, ◌++◌, [], ◌∷◌, if◌then◌else◌, OnOk, map, string_bytes};
+ghost use Rattle.std.specs.Prelude.{◌≡◌, ◌++◌, [], ◌∷◌, if◌then◌else◌, OnOk};
 
 use std::alloc::AllocError;
-
-/// Adds a text.
-pub(crate) fn push_text(texts: &mut Vec<String>, text: String) -> Result<(), AllocError>
-    ensures { OnOk result (map string_bytes texts.new.items ≡ map string_bytes texts.old.items ++ string_bytes text ∷ []) }
-{
-    texts.push(text)?;
-    Ok(())
-}
 
 /// Adds a number, if it is chosen.
 pub(crate) fn push_if(

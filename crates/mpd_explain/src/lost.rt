@@ -1,15 +1,40 @@
 //! Requests that are lost: nobody can wait for them any more (docs/CONSOLE.md, "Answers").
 
-ghost use Rattle.std.specs.Prelude.{◌≡◌, ◌<◌, ◌++◌, ◌||◌, ◌∷◌, ℕ, false, if◌then◌else◌, nat_lt, [], IfOk, OnOk, get_or, length, slice_get, string_bytes};
-ghost use Rattle.std.specs.List.{flat_map, list_any};
+ghost use Rattle.std.specs.Prelude.{◌≡◌, ◌<◌, ◌++◌, ◌||◌, ◌∷◌, ℕ, false, if◌then◌else◌, nat_lt, [], IfOk, OnOk, get_or, length};
+ghost use Rattle.std.specs.List.{list_any};
 ghost use Rattle.mpd_model.specs.steps.World.{call_id, calls_of};
 ghost use Rattle.mpd_model.specs.runs.Breakpoints.{is_number};
 ghost use Rattle.mpd_explain.specs.Lost as lost;
 
 use mpd_core::Core;
 use mpd_model::{Call, CallId, CallKind, blocks};
-use mpd_names::{issue_line, push_placed};
+use mpd_names::{PlacedCall, issue_line, placed_call};
 use std::alloc::{AllocError, Global};
+use std::marker::Model;
+
+/// Requests of one rank that are lost, all issued at one line.
+#[derive(Clone, Copy)]
+pub struct Loss {
+    /// The first of them.
+    pub first: PlacedCall,
+    /// How many they are, at least 1.
+    pub count: usize,
+}
+
+/// Requests that are lost, as contracts see them.
+#[derive(Drop)]
+pub struct LossList {
+    pub items: Vec<Loss>,
+}
+
+impl Model for LossList {
+    ghost use Rattle.std.specs.Prelude.{List};
+    ghost use Rattle.mpd_explain.specs.declared.lost.Loss.{Loss};
+
+    ghost Value = { List Loss };
+
+    ghost view = { λ l. l.items.items };
+}
 
 /// Whether its rank doesn't wait for a call of this kind as it issues it.
 fn is_request(kind: Option<CallKind>) -> bool
@@ -247,132 +272,57 @@ fn is_this(call: CallId, other: Option<CallId>) -> bool
     }
 }
 
-/// Adds that a request is lost.
-fn push_one(core: &Core<'_>, out: &mut String, call: CallId) -> Result<(), AllocError>
-    ensures { OnOk result (string_bytes out.new ≡ string_bytes out.old ++ lost.one_words core.now.program core.now.world.board call) }
-{
-    out.push_str(" has lost a request: ")?;
-    push_placed(core, out, call)
-}
-
-/// Adds how many are lost.
-fn push_many(out: &mut String, count: usize) -> Result<(), AllocError>
-    ensures { OnOk result (string_bytes out.new ≡ string_bytes out.old ++ lost.many_words count) }
-{
-    write!(out, " has lost {count}")
-}
-
-/// Adds that they are requests of a line.
-fn push_of_line(out: &mut String, line: usize) -> Result<(), AllocError>
-    ensures { OnOk result (string_bytes out.new ≡ string_bytes out.old ++ lost.of_line_words line) }
-{
-    write!(out, " requests of line {line}")?;
-    Ok(())
-}
-
-/// Adds the first of them.
-fn push_first(core: &Core<'_>, out: &mut String, call: CallId) -> Result<(), AllocError>
-    ensures { OnOk result (string_bytes out.new ≡ string_bytes out.old ++ lost.first_words core.now.world.board call) }
-{
-    write!(out, ", the first {call}")?;
-    if let Some(kind) = core.board().kind(call) {
-        write!(out, " {kind}")?;
-    }
-    Ok(())
-}
-
-/// Adds how many requests of a line are lost, and the first of them.
-fn push_several(
-    core: &Core<'_>,
-    out: &mut String,
-    count: usize,
-    call: CallId,
-) -> Result<(), AllocError>
-    ensures { OnOk result (string_bytes out.new ≡ string_bytes out.old ++ lost.several_words core.now.program core.now.world.board count call) }
-{
-    push_many(out, count)?;
-    push_of_line(out, issue_line(core, call))?;
-    push_first(core, out, call)?;
-    Ok(())
-}
-
-/// Adds that a request is lost, or how many of its line are.
+/// Adds the requests of the rank and the line of a call that are lost, if the call is the first of
+/// them, and none of these was lost before.
 fn push_loss(
     core: &Core<'_>,
-    out: &mut String,
-    count: usize,
-    call: CallId,
-) -> Result<(), AllocError>
-    ensures { OnOk result (string_bytes out.new ≡ string_bytes out.old ++ (if nat_lt 1 count then lost.several_words core.now.program core.now.world.board count call else lost.one_words core.now.program core.now.world.board call)) }
-{
-    if 1 < count {
-        push_several(core, out, count, call)
-    } else {
-        push_one(core, out, call)
-    }
-}
-
-/// Adds the line of `count` requests that are lost, of which this is the first.
-fn push_lost_line(
-    core: &Core<'_>,
-    out: &mut String,
-    count: usize,
-    call: CallId,
-) -> Result<(), AllocError>
-    ensures { OnOk result (string_bytes out.new ≡ string_bytes out.old ++ lost.lost_line core.now.program core.now.world.board count call) }
-{
-    let rank = call.rank;
-    write!(out, "rank {rank}")?;
-    push_loss(core, out, count, call)?;
-    out.push('\n')
-}
-
-/// Adds that line, if the call is the first of its line, and none of it was lost before.
-fn push_lost_entry(
-    core: &Core<'_>,
-    out: &mut String,
+    losses: &mut Vec<Loss>,
     before: &[CallId],
     calls: &[CallId],
     call: CallId,
 ) -> Result<(), AllocError>
-    ensures { OnOk result (string_bytes out.new ≡ string_bytes out.old ++ lost.lost_entry core.now.program core.now.world.board before.now calls.now call) }
+    ensures { OnOk result (losses.new.items ≡ losses.old.items ++ lost.loss_at core.now.program core.now.world.board before.now calls.now call) }
 {
     if is_this(call, first_beside(core, call, calls)) && !has_beside(core, call, before) {
-        return push_lost_line(core, out, count_beside(core, call, calls), call);
+        losses.push(Loss {
+            first: placed_call(core, call),
+            count: count_beside(core, call, calls),
+        })?;
     }
     Ok(())
 }
 
-/// Adds a line for each line of the script of which a rank has lost requests, of all that are lost,
-/// but for those of which some were lost before. `Err` means that memory was refused.
-pub fn push_lost_told(
+/// Of requests that are lost those of one rank and one line together, in the order of the first of
+/// each, but for lines of which some were lost before. `Err` means that memory was refused.
+pub fn losses(
+    alloc: Global,
     core: &Core<'_>,
-    out: &mut String,
     before: &[CallId],
     calls: &[CallId],
-) -> Result<(), AllocError>
-    ensures { OnOk result (string_bytes out.new ≡ string_bytes out.old ++ lost.lost_told core.now.program core.now.world.board before.now calls.now) }
+) -> Result<Vec<Loss>, AllocError>
+    ensures { IfOk result (λ losses. losses.items ≡ lost.losses core.now.program core.now.world.board before.now calls.now) }
 {
+    let mut losses = Vec::new(alloc);
     for call in calls {
-        push_lost_entry(core, out, before, calls, *call)?;
+        push_loss(core, &mut losses, before, calls, *call)?;
     }
-    Ok(())
+    Ok(losses)
 }
 
-/// Adds the requests of a rank that are lost. Of a rank that isn't there it adds nothing. `Err`
-/// means that memory was refused.
-pub fn push_lost(core: &Core<'_>, out: &mut String, rank: usize) -> Result<(), AllocError>
-    ensures { OnOk result (string_bytes out.new ≡ string_bytes out.old ++ lost.lost_text core.now.program core.now.world rank) }
+/// The requests of a rank that are lost, a line of the script together; of a rank that isn't there
+/// none. `Err` means that memory was refused.
+pub fn losses_of(alloc: Global, core: &Core<'_>, rank: usize) -> Result<Vec<Loss>, AllocError>
+    ensures { IfOk result (λ losses. losses.items ≡ lost.losses core.now.program core.now.world.board [] (lost.lost_calls_of core.now.world rank)) }
 {
-    let mut calls = Vec::new(*out.allocator());
+    let mut calls = Vec::new(alloc);
     list_lost(core, &mut calls, rank)?;
-    push_lost_told(core, out, &[], &calls)
+    losses(alloc, core, &[], &calls)
 }
 
-/// Adds the requests of all ranks that are lost. `Err` means that memory was refused.
-pub fn push_all_lost(core: &Core<'_>, out: &mut String) -> Result<(), AllocError>
-    ensures { OnOk result (string_bytes out.new ≡ string_bytes out.old ++ lost.lost_lines core.now.program core.now.world) }
+/// The requests of all ranks that are lost. `Err` means that memory was refused.
+pub fn all_losses(alloc: Global, core: &Core<'_>) -> Result<Vec<Loss>, AllocError>
+    ensures { IfOk result (λ losses. losses.items ≡ lost.all_losses core.now.program core.now.world) }
 {
-    let calls = lost_calls(*out.allocator(), core)?;
-    push_lost_told(core, out, &[], &calls)
+    let calls = lost_calls(alloc, core)?;
+    losses(alloc, core, &[], &calls)
 }

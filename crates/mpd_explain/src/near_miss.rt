@@ -1,24 +1,59 @@
 //! What nearly fits a call that waits, and what would have fitted it.
 
-ghost use Rattle.std.specs.Prelude.{◌≡◌, ◌++◌, ◌<◌, IfOk, OnOk, Some, length};
+ghost use Rattle.std.specs.Prelude.{◌≡◌, ◌++◌, IfOk, OnOk, Some, map};
 ghost use Rattle.std.specs.List.{list_any};
+ghost use Rattle.std.specs.Option.{option_map};
 ghost use Rattle.mpd_model.specs.steps.World.{id_eq, fits as fits_on};
 ghost use Rattle.mpd_model.specs.steps.Why.{or_else};
 ghost use Rattle.mpd_explain.specs.Missed as missed;
+ghost use Rattle.mpd_explain.specs.Wishes as wished;
 
 use crate::request_calls::requests;
 use mpd_core::Core;
 use mpd_match::is_any_or;
 use mpd_model::{Activity, CallId, CallKind, MatchSet};
+use mpd_names::{PlacedCall, placed_call};
 use std::alloc::{AllocError, Global};
 
-/// The one thing in which a send and a receive don't fit: the tag, the source that the receive
-/// names, or the rank that the send goes to.
+/// The one thing in which a send and a receive don't fit (MPI 4.0, section 3.2.4).
 #[derive(Clone, Copy)]
-pub(crate) enum Miss {
+pub enum Miss {
+    /// The tag.
     Tag,
+    /// The source that the receive names.
     Source,
+    /// The rank that the send goes to.
     Destination,
+}
+
+/// A free call that fits another but for one thing.
+#[derive(Clone, Copy)]
+pub struct NearMiss {
+    /// The call.
+    pub call: PlacedCall,
+    /// In what it doesn't fit.
+    pub miss: Miss,
+}
+
+/// A call that would have fitted another, and is matched with a third.
+#[derive(Clone, Copy)]
+pub struct TakenCall {
+    /// The call.
+    pub call: PlacedCall,
+    /// The call that it is matched with.
+    pub by: PlacedCall,
+}
+
+/// A call that isn't matched, and what nearly fits it or would have.
+#[derive(Clone, Copy)]
+pub struct Wish {
+    /// The call.
+    pub call: PlacedCall,
+    /// The free call that fits it but for one thing, if there is one: of several the nearest
+    /// (docs/FORMATS.md, "Near misses").
+    pub nearest: Option<NearMiss>,
+    /// The last call that fits it and is matched with another, if there is one.
+    pub taken: Option<TakenCall>,
 }
 
 /// Which of three things fails, if exactly one does.
@@ -279,7 +314,7 @@ fn due(alloc: Global, core: &Core<'_>, call: CallId) -> Result<Vec<(CallId, Miss
 /// The free call that fits a call but for one thing, if there is one: one that is due before one
 /// that isn't; the tag before a call of the rank that is waited for, and that before one of another
 /// rank (docs/FORMATS.md, "Near misses"). `Err` means that memory was refused.
-pub(crate) fn nearest(
+fn nearest(
     alloc: Global,
     core: &Core<'_>,
     call: CallId,
@@ -293,17 +328,6 @@ pub(crate) fn nearest(
     }
     let found = misses(alloc, core, call)?;
     Ok(nearest_of(kind, &found))
-}
-
-/// What is told of it.
-pub(crate) fn miss_text(miss: Miss) -> &'static str
-    ensures { result.now ≡ missed.miss_text miss }
-{
-    match miss {
-        Miss::Tag => "another tag",
-        Miss::Source => "another source",
-        Miss::Destination => "another destination",
-    }
 }
 
 /// Whether the second is a receive that fits the first, a send.
@@ -352,7 +376,7 @@ fn later(
 }
 
 /// The last call that fits a call and was paired with another, with that one.
-pub(crate) fn taken(core: &Core<'_>, call: CallId) -> Option<(CallId, CallId)>
+fn taken(core: &Core<'_>, call: CallId) -> Option<(CallId, CallId)>
     ensures { result ≡ missed.taken core.now.world.board call }
 {
     let mut found = None;
@@ -360,4 +384,59 @@ pub(crate) fn taken(core: &Core<'_>, call: CallId) -> Option<(CallId, CallId)>
         found = later(found, taken_of(core, call, *set));
     }
     found
+}
+
+/// A near miss with the place of its call.
+fn placed_miss(core: &Core<'_>, found: Option<(CallId, Miss)>) -> Option<NearMiss>
+    ensures { result ≡ option_map (wished.near_of core.now.program core.now.world.board) found }
+{
+    match found {
+        None => None,
+        Some((call, miss)) => Some(NearMiss {
+            call: placed_call(core, call),
+            miss,
+        }),
+    }
+}
+
+/// A call that is taken, with its place and that of the call that has it.
+fn placed_taken(core: &Core<'_>, found: Option<(CallId, CallId)>) -> Option<TakenCall>
+    ensures { result ≡ option_map (wished.taken_at core.now.program core.now.world.board) found }
+{
+    match found {
+        None => None,
+        Some((call, by)) => Some(TakenCall {
+            call: placed_call(core, call),
+            by: placed_call(core, by),
+        }),
+    }
+}
+
+/// A call that isn't matched, and what nearly fits it or would have (docs/FORMATS.md, "Near
+/// misses"). `Err` means that memory was refused.
+pub fn wish_of(alloc: Global, core: &Core<'_>, call: CallId) -> Result<Wish, AllocError>
+    ensures { IfOk result (λ wish. wish ≡ wished.wish_of core.now.program core.now.world call) }
+{
+    let found = nearest(alloc, core, call)?;
+    Ok(Wish {
+        call: placed_call(core, call),
+        nearest: placed_miss(core, found),
+        taken: placed_taken(core, taken(core, call)),
+    })
+}
+
+/// The same of several calls.
+pub(crate) fn wishes(
+    alloc: Global,
+    core: &Core<'_>,
+    calls: &[CallId],
+) -> Result<Vec<Wish>, AllocError>
+    ensures { IfOk result (λ all. all.items ≡ map (wished.wish_of core.now.program core.now.world) calls.now) }
+{
+    let mut all = Vec::new(alloc);
+    for call in calls {
+        let next = wish_of(alloc, core, *call)?;
+        all.push(next)?;
+    }
+    Ok(all)
 }

@@ -1,7 +1,7 @@
 //! Whom the ranks of a deadlock wait for, and which of them wait for one another.
 
-ghost use Rattle.std.specs.Prelude.{◌≡◌, ◌++◌, [], ◌∷◌, None, option_and_then, IfOk, OnOk, slice_get, slice_index_or, string_bytes};
-ghost use Rattle.std.specs.List.{filter, flat_map, list_any};
+ghost use Rattle.std.specs.Prelude.{◌≡◌, ◌++◌, [], ◌∷◌, None, option_and_then, IfOk, OnOk, slice_index_or};
+ghost use Rattle.std.specs.List.{filter, list_any};
 ghost use Rattle.mpd_model.specs.steps.World.{kind_at, rank_numbers};
 ghost use Rattle.mpd_model.specs.runs.Breakpoints.{is_number as same_number};
 ghost use Rattle.mpd_explain.specs.Waits as waits;
@@ -11,6 +11,22 @@ use crate::request_calls::{is_at_barrier, requests};
 use mpd_core::Core;
 use mpd_model::{Activity, CallId, CallKind, is_barrier};
 use std::alloc::{AllocError, Global};
+use std::marker::Model;
+
+/// Ranks of which each waits for the next alone, and the last for the first; the first is the
+/// lowest. Contracts see a list.
+#[derive(Drop)]
+pub struct Cycle {
+    pub ranks: Vec<usize>,
+}
+
+impl Model for Cycle {
+    ghost use Rattle.std.specs.Prelude.{List, ℕ};
+
+    ghost Value = { List ℕ };
+
+    ghost view = { λ c. c.ranks.items };
+}
 
 /// Whether a receive of a rank may get a message of another.
 fn is_source(rank: usize, source: Option<usize>, other: usize) -> bool
@@ -49,7 +65,7 @@ fn is_awaited(core: &Core<'_>, call: CallId, calls: &[CallId], other: usize) -> 
 }
 
 /// The ranks that are not at a barrier.
-fn absent(alloc: Global, core: &Core<'_>) -> Result<Vec<usize>, AllocError>
+pub(crate) fn absent(alloc: Global, core: &Core<'_>) -> Result<Vec<usize>, AllocError>
     ensures { IfOk result (λ ranks. ranks.items ≡ waits.absent core.now.world) }
 {
     let mut ranks = Vec::new(alloc);
@@ -78,7 +94,11 @@ fn awaited_by(
 }
 
 /// The ranks that a blocked call waits for.
-fn awaited_ranks(alloc: Global, core: &Core<'_>, call: CallId) -> Result<Vec<usize>, AllocError>
+pub(crate) fn awaited_ranks(
+    alloc: Global,
+    core: &Core<'_>,
+    call: CallId,
+) -> Result<Vec<usize>, AllocError>
     ensures { IfOk result (λ ranks. ranks.items ≡ waits.awaited_ranks core.now.world call) }
 {
     let kind = core.board().kind(call);
@@ -87,100 +107,6 @@ fn awaited_ranks(alloc: Global, core: &Core<'_>, call: CallId) -> Result<Vec<usi
     }
     let calls = requests(alloc, core, call.rank, kind)?;
     awaited_by(alloc, core, call, &calls)
-}
-
-/// That a rank has ended, if it has.
-#[tactic(auto, using(crate::proofs::TellLemmas::telling))]
-fn end_words(core: &Core<'_>, rank: usize) -> &'static str
-    ensures { result.now ≡ waits.end_words (slice_get core.now.world.ranks rank) }
-{
-    if rank >= core.rank_count() {
-        return "";
-    }
-    if core.rank(rank).has_ended(core.code()) {
-        " (ended)"
-    } else {
-        ""
-    }
-}
-
-/// Adds a rank, and whether it has ended.
-fn push_rank(core: &Core<'_>, out: &mut String, rank: usize) -> Result<(), AllocError>
-    ensures { OnOk result (string_bytes out.new ≡ string_bytes out.old ++ waits.rank_words core.now.world rank) }
-{
-    let end = end_words(core, rank);
-    write!(out, "rank {rank}{end}")
-}
-
-/// Adds ranks, with a comma and a space between two.
-fn push_ranks(core: &Core<'_>, out: &mut String, ranks: &[usize]) -> Result<(), AllocError>
-    ensures { OnOk result (string_bytes out.new ≡ string_bytes out.old ++ waits.ranks_text core.now.world ranks.now) }
-{
-    let Some((first, rest)) = ranks.split_first() else {
-        return out.push_str("nobody");
-    };
-    push_rank(core, out, *first)?;
-    for rank in rest {
-        out.push_str(", ")?;
-        push_rank(core, out, *rank)?;
-    }
-    Ok(())
-}
-
-/// Whether all of some ranks are wanted, or any of them would do; nothing of one alone.
-fn several_words(kind: Option<CallKind>, ranks: &[usize]) -> &'static str
-    ensures { result.now ≡ waits.several_words kind ranks.now }
-{
-    if 1 < ranks.len() {
-        if is_barrier(kind) {
-            "all of "
-        } else {
-            "any of "
-        }
-    } else {
-        ""
-    }
-}
-
-/// Adds the ranks that a call of this kind waits for.
-fn push_awaited_by(
-    core: &Core<'_>,
-    out: &mut String,
-    kind: Option<CallKind>,
-    ranks: &[usize],
-) -> Result<(), AllocError>
-    ensures { OnOk result (string_bytes out.new ≡ string_bytes out.old ++ waits.awaited_text core.now.world kind ranks.now) }
-{
-    out.push_str(several_words(kind, ranks))?;
-    push_ranks(core, out, ranks)
-}
-
-/// Adds the ranks that a call waits for.
-fn push_awaited(
-    core: &Core<'_>,
-    out: &mut String,
-    call: CallId,
-    ranks: &[usize],
-) -> Result<(), AllocError>
-    ensures { OnOk result (string_bytes out.new ≡ string_bytes out.old ++ waits.awaited_text core.now.world (kind_at core.now.world.board call) ranks.now) }
-{
-    push_awaited_by(core, out, core.board().kind(call), ranks)
-}
-
-/// Adds the line of whom the rank of a blocked call waits for.
-pub(crate) fn push_waits_line(
-    alloc: Global,
-    core: &Core<'_>,
-    out: &mut String,
-    call: CallId,
-) -> Result<(), AllocError>
-    ensures { OnOk result (string_bytes out.new ≡ string_bytes out.old ++ waits.waits_line core.now.world call) }
-{
-    let ranks = awaited_ranks(alloc, core, call)?;
-    let rank = call.rank;
-    write!(out, "  rank {rank} waits for ")?;
-    push_awaited(core, out, call, &ranks)?;
-    out.push('\n')
 }
 
 /// The one of some ranks, if there is one alone.
@@ -302,56 +228,39 @@ fn is_lowest(rank: usize, ranks: &[usize]) -> bool
     ranks.iter().all(|other| *other >= rank)
 }
 
-/// Adds ranks, each with a comma and a space after it.
-fn push_named(out: &mut String, ranks: &[usize]) -> Result<(), AllocError>
-    ensures { OnOk result (string_bytes out.new ≡ string_bytes out.old ++ flat_map waits.named ranks.now) }
-{
-    for rank in ranks {
-        write!(out, "rank {rank}, ")?;
-    }
-    Ok(())
-}
-
-/// Adds the line of a cycle, if the rank is its lowest.
-fn push_ring_line(out: &mut String, rank: usize, ranks: &[usize]) -> Result<(), AllocError>
-    ensures { OnOk result (string_bytes out.new ≡ string_bytes out.old ++ waits.ring_line rank ranks.now) }
-{
-    if !is_lowest(rank, ranks) {
-        return Ok(());
-    }
-    out.push_str("  a cycle, where each waits for the next: ")?;
-    push_named(out, ranks)?;
-    write!(out, "rank {rank}\n")
-}
-
-/// Adds the line of the cycle that a rank is on, if it is the lowest of it.
-fn push_cycle_line(
-    alloc: Global,
-    out: &mut String,
-    next: &[Option<usize>],
-    rank: usize,
-) -> Result<(), AllocError>
-    ensures { OnOk result (string_bytes out.new ≡ string_bytes out.old ++ waits.cycle_line next.now rank) }
+/// The ranks of the cycle that a rank is on, from that rank on, if it is the lowest of it.
+fn cycle_at(alloc: Global, next: &[Option<usize>], rank: usize) -> Result<Option<Cycle>, AllocError>
+    ensures { IfOk result (λ found. found ≡ waits.cycle next.now rank) }
 {
     let Some(count) = round(next, rank) else {
-        return Ok(());
+        return Ok(None);
     };
     let ranks = ring(alloc, next, rank, count)?;
-    push_ring_line(out, rank, &ranks)
+    if is_lowest(rank, &ranks) {
+        return Ok(Some(Cycle { ranks }));
+    }
+    Ok(None)
 }
 
-/// Adds the lines of all cycles.
-pub(crate) fn push_cycle_lines(
-    alloc: Global,
-    core: &Core<'_>,
-    out: &mut String,
-) -> Result<(), AllocError>
-    ensures { OnOk result (string_bytes out.new ≡ string_bytes out.old ++ waits.cycle_lines core.now.world) }
+/// Adds a cycle, if there is one.
+fn push_cycle(cycles: &mut Vec<Cycle>, found: Option<Cycle>) -> Result<(), AllocError>
+    ensures { OnOk result (cycles.new.items ≡ cycles.old.items ++ waits.listed found) }
 {
-    let next = singles(alloc, core)?;
-    let count = core.rank_count();
-    for rank in 0..count {
-        push_cycle_line(alloc, out, &next, rank)?;
+    if let Some(cycle) = found {
+        cycles.push(cycle)?;
     }
     Ok(())
+}
+
+/// All cycles in which each rank waits for the next alone, by their lowest ranks.
+pub(crate) fn cycles(alloc: Global, core: &Core<'_>) -> Result<Vec<Cycle>, AllocError>
+    ensures { IfOk result (λ cycles. cycles.items ≡ waits.cycles core.now.world) }
+{
+    let next = singles(alloc, core)?;
+    let mut cycles = Vec::new(alloc);
+    let count = core.rank_count();
+    for rank in 0..count {
+        push_cycle(&mut cycles, cycle_at(alloc, &next, rank)?)?;
+    }
+    Ok(cycles)
 }

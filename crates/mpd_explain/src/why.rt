@@ -1,313 +1,228 @@
-//! Why a call, or the call that a rank waits for, isn't matched (docs/CONSOLE.md, "Looks").
+//! Why a call isn't matched (docs/CONSOLE.md, "Looks").
 
-ghost use Rattle.std.specs.Prelude.{◌≡◌, ◌++◌, OnOk, string_bytes};
-ghost use Rattle.std.specs.List.{flat_map};
-ghost use Rattle.mpd_explain.specs.Whys as whys;
+ghost use Rattle.std.specs.Prelude.{◌≡◌, IfOk, map};
+ghost use Rattle.std.specs.Option.{option_map};
+ghost use Rattle.mpd_model.specs.steps.World.{kind_at};
+ghost use Rattle.mpd_names.specs.Placed.{placed_call_of};
+ghost use Rattle.mpd_explain.specs.Whys as spec;
 
-use crate::looks::{push_call, push_or_none};
+use crate::ends::{AbsenceList, absences};
+use crate::near_miss::{Wish, wish_of};
 use crate::request_calls::requests;
-use crate::sentences::{push_all_absent, push_helps, push_wish};
 use mpd_core::Core;
 use mpd_model::{CallId, CallKind};
-use mpd_names::{can_wake, is_blocked, push_placed};
+use mpd_names::{PlacedCall, is_blocked, placed_call};
 use std::alloc::{AllocError, Global};
+use std::marker::Model;
 
-/// Adds the call that holds a match back, if one does.
-fn push_holder(core: &Core<'_>, out: &mut String, holder: Option<CallId>) -> Result<(), AllocError>
-    ensures { OnOk result (string_bytes out.new ≡ string_bytes out.old ++ whys.holder_words core.now.program core.now.world.board holder) }
-{
-    let Some(holder) = holder else {
-        return Ok(());
-    };
-    out.push_str(", but for ")?;
-    push_placed(core, out, holder)
+/// A call that a free call could be matched with.
+#[derive(Clone, Copy)]
+pub struct Partner {
+    pub call: PlacedCall,
+    /// What holds the match back, if anything does: an earlier call that goes first (MPI 4.0,
+    /// section 3.5).
+    pub held_by: Option<PlacedCall>,
 }
 
-/// Whether a match is held back.
-fn can_words(holder: Option<CallId>) -> &'static str
-    ensures { result.now ≡ whys.can_words holder }
+/// Calls that a free call could be matched with, as contracts see them.
+#[derive(Drop)]
+pub struct PartnerList {
+    pub items: Vec<Partner>,
+}
+
+impl Model for PartnerList {
+    ghost use Rattle.std.specs.Prelude.{List};
+    ghost use Rattle.mpd_explain.specs.declared.why.Partner.{Partner};
+
+    ghost Value = { List Partner };
+
+    ghost view = { λ l. l.items.items };
+}
+
+/// What a call can be matched with.
+#[derive(Drop)]
+pub enum Chances {
+    /// It is not a free send or receive.
+    NotFree,
+    /// It is free, and fits these, one at least.
+    With(PartnerList),
+    /// It is free, and fits none: what nearly fits it or would have.
+    Lonely(Wish),
+}
+
+/// A call, and what it can be matched with.
+#[derive(Drop)]
+pub struct Fit {
+    pub call: CallId,
+    pub chances: Chances,
+}
+
+/// Calls, each with what it can be matched with, as contracts see them.
+#[derive(Drop)]
+pub struct FitList {
+    pub items: Vec<Fit>,
+}
+
+impl Model for FitList {
+    ghost use Rattle.std.specs.Prelude.{List};
+    ghost use Rattle.mpd_explain.specs.declared.why.Fit.{Fit};
+    ghost use Rattle.mpd_explain.specs.WhyCodes.{fits_code};
+
+    ghost Value = { List Fit };
+
+    ghost coded = { fits_code };
+
+    ghost view = { λ l. l.items.items };
+}
+
+/// Why a call isn't matched, or isn't complete.
+#[derive(Drop)]
+pub struct Why {
+    /// The call.
+    pub fit: Fit,
+    /// The calls that a wait is for, and those that a waitany is for while its rank waits there.
+    pub requests: FitList,
+    /// The ranks that are not at a barrier while the call's rank waits there.
+    pub absent: AbsenceList,
+}
+
+/// The call that holds a match back, with its place.
+fn placed_holder(core: &Core<'_>, holder: Option<CallId>) -> Option<PlacedCall>
+    ensures { result ≡ option_map (placed_call_of core.now.program core.now.world.board) holder }
 {
     match holder {
-        None => "  can be matched with ",
-        Some(_) => "  could be matched with ",
+        None => None,
+        Some(call) => Some(placed_call(core, call)),
     }
 }
 
-/// Adds the line of a call that fits another.
-fn push_partner(
+/// Calls that fit another, with their places.
+fn partners_of(
+    alloc: Global,
     core: &Core<'_>,
-    out: &mut String,
-    partner: (CallId, Option<CallId>),
-) -> Result<(), AllocError>
-    ensures { OnOk result (string_bytes out.new ≡ string_bytes out.old ++ whys.partner_line core.now.program core.now.world.board partner) }
-{
-    let (call, holder) = partner;
-    out.push_str(can_words(holder))?;
-    push_placed(core, out, call)?;
-    push_holder(core, out, holder)?;
-    out.push('\n')
-}
-
-/// Adds the lines of the calls that fit another.
-fn push_partners(
-    core: &Core<'_>,
-    out: &mut String,
     partners: &[(CallId, Option<CallId>)],
-) -> Result<(), AllocError>
-    ensures { OnOk result (string_bytes out.new ≡ string_bytes out.old ++ flat_map (whys.partner_line core.now.program core.now.world.board) partners.now) }
+) -> Result<PartnerList, AllocError>
+    ensures { IfOk result (λ list. list ≡ map (spec.partner_of core.now.program core.now.world.board) partners.now) }
 {
+    let mut items = Vec::new(alloc);
     for partner in partners {
-        push_partner(core, out, *partner)?;
+        let (call, holder) = *partner;
+        items.push(Partner {
+            call: placed_call(core, call),
+            held_by: placed_holder(core, holder),
+        })?;
     }
-    Ok(())
+    Ok(PartnerList { items })
 }
 
-/// Adds the line of a call that fits no other.
-fn push_lonely_line(core: &Core<'_>, out: &mut String, call: CallId) -> Result<(), AllocError>
-    ensures { OnOk result (string_bytes out.new ≡ string_bytes out.old ++ whys.lonely_line core.now.world.board call) }
-{
-    out.push_str("  has no partner yet: ")?;
-    push_wish(out, call.rank, core.board().kind(call))?;
-    out.push('\n')
-}
-
-/// Adds that line, and what nearly fits the call or would have.
-fn push_lonely(
+/// What a free call can be matched with, given the calls that fit it.
+fn chances_by(
     alloc: Global,
     core: &Core<'_>,
-    out: &mut String,
-    call: CallId,
-) -> Result<(), AllocError>
-    ensures { OnOk result (string_bytes out.new ≡ string_bytes out.old ++ whys.lonely_text core.now.program core.now.world call) }
-{
-    push_lonely_line(core, out, call)?;
-    push_helps(alloc, core, out, call)
-}
-
-/// Adds the calls that fit another, or that there is none.
-fn push_partners_or_lonely(
-    alloc: Global,
-    core: &Core<'_>,
-    out: &mut String,
     call: CallId,
     partners: &[(CallId, Option<CallId>)],
-) -> Result<(), AllocError>
-    ensures { OnOk result (string_bytes out.new ≡ string_bytes out.old ++ whys.partners_text core.now.program core.now.world call partners.now) }
+) -> Result<Chances, AllocError>
+    ensures { IfOk result (λ chances. chances ≡ spec.chances_by core.now.program core.now.world call partners.now) }
 {
     if partners.is_empty() {
-        return push_lonely(alloc, core, out, call);
+        return Ok(Chances::Lonely(wish_of(alloc, core, call)?));
     }
-    push_partners(core, out, partners)
+    Ok(Chances::With(partners_of(alloc, core, partners)?))
 }
 
-/// Adds what is told of a call that is free.
-fn push_free(
-    alloc: Global,
-    core: &Core<'_>,
-    out: &mut String,
-    call: CallId,
-) -> Result<(), AllocError>
-    ensures { OnOk result (string_bytes out.new ≡ string_bytes out.old ++ whys.partners_of core.now.program core.now.world call) }
+/// What a call can be matched with.
+fn chances_of(alloc: Global, core: &Core<'_>, call: CallId) -> Result<Chances, AllocError>
+    ensures { IfOk result (λ chances. chances ≡ spec.chances_of core.now.program core.now.world call) }
 {
     if !core.board().is_free(call) {
-        return Ok(());
+        return Ok(Chances::NotFree);
     }
     let why = core.board().why(alloc, call)?;
-    push_partners_or_lonely(alloc, core, out, call, &why.partners)
+    chances_by(alloc, core, call, &why.partners)
 }
 
-/// Adds a call, and what is told of it if it is free.
-fn push_match(
-    alloc: Global,
-    core: &Core<'_>,
-    out: &mut String,
-    call: CallId,
-) -> Result<(), AllocError>
-    ensures { OnOk result (string_bytes out.new ≡ string_bytes out.old ++ whys.match_text core.now.program core.now.world call) }
+/// A call, and what it can be matched with.
+fn fit_of(alloc: Global, core: &Core<'_>, call: CallId) -> Result<Fit, AllocError>
+    ensures { IfOk result (λ fit. fit ≡ spec.fit_of core.now.program core.now.world call) }
 {
-    push_call(core, out, call)?;
-    push_free(alloc, core, out, call)
+    let chances = chances_of(alloc, core, call)?;
+    Ok(Fit { call, chances })
 }
 
-/// Adds that of some calls.
-fn push_matches(
-    alloc: Global,
-    core: &Core<'_>,
-    out: &mut String,
-    calls: &[CallId],
-) -> Result<(), AllocError>
-    ensures { OnOk result (string_bytes out.new ≡ string_bytes out.old ++ flat_map (whys.match_text core.now.program core.now.world) calls.now) }
+/// The same of several.
+fn fits_of(alloc: Global, core: &Core<'_>, calls: &[CallId]) -> Result<FitList, AllocError>
+    ensures { IfOk result (λ list. list ≡ map (spec.fit_of core.now.program core.now.world) calls.now) }
 {
+    let mut items = Vec::new(alloc);
     for call in calls {
-        push_match(alloc, core, out, *call)?;
+        let fit = fit_of(alloc, core, *call)?;
+        items.push(fit)?;
     }
-    Ok(())
-}
-
-/// Adds that of the calls that a wait or a waitany is for.
-fn push_requests(
-    alloc: Global,
-    core: &Core<'_>,
-    out: &mut String,
-    call: CallId,
-    kind: Option<CallKind>,
-) -> Result<(), AllocError>
-    ensures { OnOk result (string_bytes out.new ≡ string_bytes out.old ++ whys.requests_text core.now.program core.now.world call kind) }
-{
-    let calls = requests(alloc, core, call.rank, kind)?;
-    push_matches(alloc, core, out, &calls)
+    Ok(FitList { items })
 }
 
 /// Whether a rank waits in this call.
 fn waits_in(core: &Core<'_>, call: CallId) -> bool
-    ensures { result ≡ whys.waits_in core.now.world call }
+    ensures { result ≡ spec.waits_in core.now.world call }
 {
     let last = core.board().last_call(call.rank);
     is_blocked(core, call.rank) && (last.rank == call.rank && last.index == call.index)
 }
 
-/// Adds that of the calls that a waitany is for, while its rank waits there.
-fn push_waitany(
+/// The calls that a wait is for, and those that a waitany is for while its rank waits there.
+fn awaited_calls(
     alloc: Global,
     core: &Core<'_>,
-    out: &mut String,
-    call: CallId,
-    kind: Option<CallKind>,
-) -> Result<(), AllocError>
-    ensures { OnOk result (string_bytes out.new ≡ string_bytes out.old ++ whys.waitany_text core.now.program core.now.world call kind) }
-{
-    if waits_in(core, call) {
-        push_requests(alloc, core, out, call, kind)
-    } else {
-        Ok(())
-    }
-}
-
-/// Adds the ranks that are not at a barrier, while the rank of the call waits there.
-fn push_barrier(core: &Core<'_>, out: &mut String, call: CallId) -> Result<(), AllocError>
-    ensures { OnOk result (string_bytes out.new ≡ string_bytes out.old ++ whys.barrier_text core.now.program core.now.world call) }
-{
-    if waits_in(core, call) {
-        push_all_absent(core, out)
-    } else {
-        Ok(())
-    }
-}
-
-/// Adds what a wait, a waitany or a barrier waits for.
-fn push_waited(
-    alloc: Global,
-    core: &Core<'_>,
-    out: &mut String,
     call: CallId,
     kind: CallKind,
-) -> Result<(), AllocError>
-    ensures { OnOk result (string_bytes out.new ≡ string_bytes out.old ++ whys.waited_text core.now.program core.now.world call kind) }
+) -> Result<Vec<CallId>, AllocError>
+    ensures { IfOk result (λ calls. calls.items ≡ spec.awaited_calls core.now.world call kind) }
 {
     match kind {
-        CallKind::Send(_) | CallKind::Recv(_) => Ok(()),
-        CallKind::Wait(_) => push_requests(alloc, core, out, call, Some(kind)),
-        CallKind::Waitany(_) => push_waitany(alloc, core, out, call, Some(kind)),
-        CallKind::Barrier => push_barrier(core, out, call),
+        CallKind::Waitany(_) if !waits_in(core, call) => Ok(Vec::new(alloc)),
+        _ => requests(alloc, core, call.rank, Some(kind)),
     }
 }
 
-/// Adds why a call isn't matched. Of a call that isn't there it adds nothing. `Err` means that
-/// memory was refused.
-pub fn push_why(
+/// The ranks that are not at a barrier, while the call's rank waits there.
+fn absent_at(
     alloc: Global,
     core: &Core<'_>,
-    out: &mut String,
     call: CallId,
-) -> Result<(), AllocError>
-    ensures { OnOk result (string_bytes out.new ≡ string_bytes out.old ++ whys.why_text core.now.program core.now.world call) }
+    kind: CallKind,
+) -> Result<AbsenceList, AllocError>
+    ensures { IfOk result (λ list. list ≡ spec.absent_at core.now.program core.now.world call kind) }
 {
-    let Some(kind) = core.board().kind(call) else {
-        return Ok(());
-    };
-    push_match(alloc, core, out, call)?;
-    push_waited(alloc, core, out, call, kind)
-}
-
-/// Adds that a rank waits for no call.
-fn push_no_call(out: &mut String, rank: usize) -> Result<(), AllocError>
-    ensures { OnOk result (string_bytes out.new ≡ string_bytes out.old ++ whys.no_call_line rank) }
-{
-    write!(out, "rank {rank} waits for no call\n")
-}
-
-/// Adds that a rank can go on, if its call is complete.
-fn push_woken(core: &Core<'_>, out: &mut String, rank: usize) -> Result<(), AllocError>
-    ensures { OnOk result (string_bytes out.new ≡ string_bytes out.old ++ whys.woken_line core.now.world rank) }
-{
-    if !can_wake(core, rank) {
-        return Ok(());
-    }
-    write!(out, "  the call is complete: rank {rank} can go on\n")
-}
-
-/// Adds why the last call of a rank isn't matched, and that the rank can go on, if it can.
-fn push_waited_by(
-    alloc: Global,
-    core: &Core<'_>,
-    out: &mut String,
-    rank: usize,
-) -> Result<(), AllocError>
-    ensures { OnOk result (string_bytes out.new ≡ string_bytes out.old ++ whys.waited_by core.now.program core.now.world rank) }
-{
-    push_why(alloc, core, out, core.board().last_call(rank))?;
-    push_woken(core, out, rank)
-}
-
-/// Adds why the call that a rank waits for isn't matched, or that it waits for none. `Err` means
-/// that memory was refused.
-pub fn push_why_rank(
-    alloc: Global,
-    core: &Core<'_>,
-    out: &mut String,
-    rank: usize,
-) -> Result<(), AllocError>
-    ensures { OnOk result (string_bytes out.new ≡ string_bytes out.old ++ whys.why_rank_text core.now.program core.now.world rank) }
-{
-    if is_blocked(core, rank) {
-        push_waited_by(alloc, core, out, rank)
-    } else {
-        push_no_call(out, rank)
+    match kind {
+        CallKind::Barrier if waits_in(core, call) => absences(alloc, core),
+        _ => Ok(AbsenceList {
+            items: Vec::new(alloc),
+        }),
     }
 }
 
-/// Adds why the call that a rank waits for isn't matched, if it waits for one.
-fn push_waiting(
-    alloc: Global,
-    core: &Core<'_>,
-    out: &mut String,
-    rank: usize,
-) -> Result<(), AllocError>
-    ensures { OnOk result (string_bytes out.new ≡ string_bytes out.old ++ whys.waiting_text core.now.program core.now.world rank) }
+/// Why a call of this kind isn't matched.
+fn why_by(alloc: Global, core: &Core<'_>, call: CallId, kind: CallKind) -> Result<Why, AllocError>
+    ensures { IfOk result (λ why. why ≡ spec.why_by core.now.program core.now.world call kind) }
 {
-    if !is_blocked(core, rank) {
-        return Ok(());
-    }
-    push_waited_by(alloc, core, out, rank)
+    let fit = fit_of(alloc, core, call)?;
+    let calls = awaited_calls(alloc, core, call, kind)?;
+    let requests = fits_of(alloc, core, &calls)?;
+    let absent = absent_at(alloc, core, call, kind)?;
+    Ok(Why {
+        fit,
+        requests,
+        absent,
+    })
 }
 
-/// Adds that of all ranks.
-fn push_all_waiting(alloc: Global, core: &Core<'_>, out: &mut String) -> Result<(), AllocError>
-    ensures { OnOk result (string_bytes out.new ≡ string_bytes out.old ++ whys.waiting_lines core.now.program core.now.world) }
+/// Why a call isn't matched, or isn't complete; `None` if there is no such call. `Err` means that
+/// memory was refused.
+pub fn why_of(alloc: Global, core: &Core<'_>, call: CallId) -> Result<Option<Why>, AllocError>
+    ensures { IfOk result (λ why. why ≡ option_map (spec.why_by core.now.program core.now.world call) (kind_at core.now.world.board call)) }
 {
-    let count = core.rank_count();
-    for rank in 0..count {
-        push_waiting(alloc, core, out, rank)?;
+    match core.board().kind(call) {
+        None => Ok(None),
+        Some(kind) => Ok(Some(why_by(alloc, core, call, kind)?)),
     }
-    Ok(())
-}
-
-/// Adds why the calls that ranks wait for aren't matched, by rank, or that no rank waits for one.
-/// `Err` means that memory was refused.
-pub fn push_why_ranks(alloc: Global, core: &Core<'_>, out: &mut String) -> Result<(), AllocError>
-    ensures { OnOk result (string_bytes out.new ≡ string_bytes out.old ++ whys.why_ranks_text core.now.program core.now.world) }
-{
-    let mut lines = String::new(alloc);
-    push_all_waiting(alloc, core, &mut lines)?;
-    push_or_none(out, "no rank waits for a call", &lines)
 }

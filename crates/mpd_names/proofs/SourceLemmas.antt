@@ -1,7 +1,6 @@
 -- A line of a text, behind so many others.
-use Rattle.std.proofs.Common.{◌≡◌, ℕ, zero, suc, ◌+◌, ◌-◌, ◌<◌, ◌≤◌, List, [], ◌∷◌, ◌++◌, map, Option, Some, None, slice_get, refl, sym, ap, ◌∙◌, arith, append-nil}
+use Rattle.std.proofs.Common.{◌≡◌, ℕ, zero, suc, ◌+◌, ◌-◌, ◌<◌, ◌≤◌, List, [], ◌∷◌, map, Option, Some, None, slice_get, refl, sym, ap, ◌∙◌, arith}
 use Rattle.mpd_model.specs.texts.Lines.{raw_lines, lines_of, bare}
-use Rattle.mpd_names.specs.Sources.{source, source_line, numbered}
 
 -- ---- walking
 
@@ -22,17 +21,3 @@ pub no_lines : (left : ℕ) (rest : List ℕ) (total : Option (List ℕ)) → ra
 no_lines left rest total cut e = sym e ∙ ap (λ ls. slice_get (map bare ls) left) cut
 
 pub ruleset passing = (line_on, line_here, no_lines)
-
--- ---- by its number
-
-numbered_is : (n : ℕ) (ls : List (List ℕ)) → 0 < n → numbered ls n ≡ source_line n (slice_get ls (n - 1))
-numbered_is zero ls h = absurd (omega (arith, h))
-numbered_is (suc i) ls h = let k : suc i - 1 ≡ i = omega arith in ap (λ j. source_line (suc i) (slice_get ls j)) (sym k)
-
-pub source_some : (n : ℕ) (text l old now : List ℕ) → 0 < n → slice_get (lines_of text) (n - 1) ≡ Some l → now ≡ old ++ source_line n (Some l) → now ≡ old ++ source text n
-source_some n text l old now h e f = f ∙ ap (λ t. old ++ t) (sym (numbered_is n (lines_of text) h ∙ ap (source_line n) e))
-
-pub source_none : (n : ℕ) (text old : List ℕ) → 0 < n → slice_get (lines_of text) (n - 1) ≡ None → old ≡ old ++ source text n
-source_none n text old h e = sym (append-nil old) ∙ ap (λ t. old ++ t) (sym (numbered_is n (lines_of text) h ∙ ap (source_line n) e))
-
-pub ruleset numbering = (source_some, source_none)

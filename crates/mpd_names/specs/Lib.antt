@@ -3,12 +3,8 @@ pub mod Cells
 pub mod Names
 pub mod Called
 pub mod Held
+pub mod HoldingCodes
 pub mod Reads
 pub mod Stand
-pub mod Listed
-pub mod Sources
-pub mod Ends
 pub mod NameRows
 pub mod ReadRows
-pub mod ListRows
-pub mod EndRows

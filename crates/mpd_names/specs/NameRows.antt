@@ -1,17 +1,14 @@
 -- Worked rows of names. What is wanted was worked out by hand.
-use Rattle.std.specs.Prelude.{◌≡◌, ℕ, pos, negsuc, map, List, [], ◌∷◌, Option, Some, None, Result, Ok, Err, codes, refl}
-use Rattle.std.specs.Fmt.{digits}
+use Rattle.std.specs.Prelude.{◌≡◌, ℕ, map, List, [], ◌∷◌, Option, Some, None, Result, Ok, Err, codes, refl}
 use Rattle.mpd_model.specs.declared.place.DeclKind.{DeclKind}
 use Rattle.mpd_model.specs.declared.place.DeclKind.TheVariants.{Variable, Handle}
-use Rattle.mpd_model.specs.declared.comparison.Comparison.TheVariants.{Equal, AtMost}
-use Rattle.mpd_model.specs.declared.breakpoint.Breakpoint.{Breakpoint}
-use Rattle.mpd_model.specs.declared.breakpoint.Breakpoint.TheVariants as on
 use Rattle.mpd_model.specs.script.Declaration.{Declared}
 use Rattle.mpd_names.specs.declared.name.Named.{Named}
 use Rattle.mpd_names.specs.declared.name.NameFault.{NameFault}
 use Rattle.mpd_names.specs.declared.name.NameFault.TheVariants.{Unknown, NoSuchCell}
 use Rattle.mpd_names.specs.Names.{named}
-use Rattle.mpd_names.specs.Called.{cell_name, break_text}
+use Rattle.mpd_names.specs.declared.text.NamedCell.{NamedCell}
+use Rattle.mpd_names.specs.Called.{named_cell}
 
 abbrev decl : DeclKind → List ℕ → Option ℕ → Declared
 decl kind name size = record { kind = kind; name = name; size = size }
@@ -36,22 +33,14 @@ words =
 pub row_words : map {B = Result Named NameFault} (λ q. named five q.0) words ≡ map {B = Result Named NameFault} (λ q. q.1) words
 row_words = refl
 
--- ---- names
+-- ---- cells: the number of the declaration and the index, none where there is no such cell
 
-abbrev names : List ((DeclKind × ℕ) × List ℕ)
-names =
-    ((Variable, 0), codes "x") ∷ ((Variable, 1), codes "a[0]") ∷ ((Variable, 2), codes "a[1]") ∷ ((Variable, 3), []) ∷ ((Handle, 0), codes "r") ∷ ((Handle, 1), []) ∷ []
+abbrev there : ℕ → ℕ → Option NamedCell
+there d i = Some (record { declaration = d; index = i })
 
-pub row_names : map {B = List ℕ} (λ q. cell_name five q.0.0 q.0.1) names ≡ map {B = List ℕ} (λ q. q.1) names
-unfolding digits
-row_names = refl
+abbrev numbers : List ((DeclKind × ℕ) × Option NamedCell)
+numbers =
+    ((Variable, 0), there 0 0) ∷ ((Variable, 1), there 2 0) ∷ ((Variable, 2), there 2 1) ∷ ((Variable, 3), None) ∷ ((Handle, 0), there 1 0) ∷ ((Handle, 1), None) ∷ []
 
-abbrev stops : List (Breakpoint × List ℕ)
-stops =
-    (on.Line 9 None None, codes "line 9") ∷ (on.Line 9 (Some 1) None, codes "line 9 rank 1") ∷ (on.Line 9 None (Some (record { cell = 2; comparison = AtMost; value = negsuc 11 })), codes "line 9 if a[1] <= -12")
-    ∷ (on.Line 10 (Some 0) (Some (record { cell = 0; comparison = Equal; value = pos 3 })), codes "line 10 rank 0 if x == 3") ∷ (on.Match 12 None, codes "match 12") ∷ (on.Match 12 (Some 3), codes "match 12 rank 3") ∷ (on.Rank 2, codes "rank 2")
-    ∷ (on.Change 1 0, codes "change 1 x") ∷ (on.Change 1 2, codes "change 1 a[1]") ∷ (on.Handle 0 0, codes "change 0 r") ∷ []
-
-pub row_stops : map {B = List ℕ} (λ q. break_text five q.0) stops ≡ map {B = List ℕ} (λ q. q.1) stops
-unfolding digits
-row_stops = refl
+pub row_numbers : map {B = Option NamedCell} (λ q. named_cell five q.0.0 q.0.1) numbers ≡ map {B = Option NamedCell} (λ q. q.1) numbers
+row_numbers = refl

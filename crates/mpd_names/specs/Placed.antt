@@ -1,14 +1,11 @@
 -- Where calls and ranks stand in a script.
-use Rattle.std.specs.Prelude.{ℕ, List, [], ◌∷◌, ◌++◌, Option, Some, None, slice_index_or, codes}
-use Rattle.std.specs.Fmt.{decimal}
+use Rattle.std.specs.Prelude.{ℕ, List, Option, Some, None, slice_index_or}
 use Rattle.mpd_model.specs.declared.step.CallId.{CallId}
 use Rattle.mpd_model.specs.declared.call.Call.{Call}
-use Rattle.mpd_model.specs.declared.call.CallKind.{CallKind}
 use Rattle.mpd_names.specs.declared.place.PlacedCall.{PlacedCall}
 use Rattle.mpd_model.specs.script.Program.{Program}
 use Rattle.mpd_model.specs.steps.World.{RankWorld, Board, call_at, kind_at}
 use Rattle.mpd_model.specs.steps.Outcomes.{first_number}
-use Rattle.mpd_model.specs.texts.Texts.{id_text, kind_text}
 
 -- ---- lines of the script
 
@@ -29,21 +26,6 @@ rank_line lines (Some r) = statement_line lines (first_number r.rest)
 
 -- ---- calls
 
-abbrev pub kind_words : Option CallKind → List ℕ
-kind_words None = []
-kind_words (Some kind) = 32 ∷ kind_text kind
-
 -- a call, the line of the statement that issued it, and what it is
 abbrev pub placed_call_of : Program → Board → CallId → PlacedCall
 placed_call_of s b c = record { call = c; line = issue_line s.lines (call_at b c); kind = kind_at b c }
-
--- `line 9, 0.1 recv from 1 tag 2`
-abbrev pub placed_text : PlacedCall → List ℕ
-placed_text c = codes "line " ++ decimal c.line ++ codes ", " ++ id_text c.call ++ kind_words c.kind
-
-abbrev pub placed : Program → Board → CallId → List ℕ
-placed s b c = placed_text (placed_call_of s b c)
-
--- `rank 1, line 5`
-abbrev pub issuer : Program → Board → CallId → List ℕ
-issuer s b c = codes "rank " ++ decimal c.rank ++ codes ", line " ++ decimal (issue_line s.lines (call_at b c))

@@ -1,11 +1,9 @@
 -- Worked rows of what statements read. What is wanted was worked out by hand.
-use Rattle.std.specs.Prelude.{◌≡◌, ℕ, ◌+◌, pos, negsuc, map, List, [], ◌∷◌, Option, Some, None, codes, refl}
+use Rattle.std.specs.Prelude.{◌≡◌, ℕ, ℤ, ◌+◌, pos, negsuc, map, List, [], ◌∷◌, Option, Some, None, codes, refl}
 use Rattle.std.specs.List.{filter, range_with_len}
-use Rattle.std.specs.Fmt.{digits}
 use Rattle.mpd_model.specs.declared.place.DeclKind.{DeclKind}
 use Rattle.mpd_model.specs.declared.place.DeclKind.TheVariants.{Variable, Handle}
 use Rattle.mpd_model.specs.declared.place.Place.{Place}
-use Rattle.mpd_model.specs.declared.call.Mode.TheVariants.{Rendezvous}
 use Rattle.mpd_model.specs.declared.call.Activity.TheVariants.{Trapped}
 use Rattle.mpd_model.specs.declared.call.Trap.TheVariants.{BadRank}
 use Rattle.mpd_model.specs.declared.expr.BinaryOp.TheVariants.{And, Add, Divide}
@@ -17,8 +15,11 @@ use Rattle.mpd_model.specs.script.Declaration.{Declared}
 use Rattle.mpd_model.specs.script.Term.{Term, lit, own_rank, size, cell, element, op1, op2, Target}
 use Rattle.mpd_model.specs.script.Tree.{Tree, simple, branch, repeat, Block, no_more, then_more}
 use Rattle.mpd_model.specs.script.Program.{Program}
-use Rattle.mpd_model.specs.steps.World.{RankWorld, World, start_board}
-use Rattle.mpd_names.specs.Reads.{statement_reads, read_text}
+use Rattle.mpd_model.specs.steps.World.{RankWorld}
+use Rattle.mpd_names.specs.declared.holding.Holding.{Holding}
+use Rattle.mpd_names.specs.declared.holding.Held.TheVariants.{Values, Calls}
+use Rattle.mpd_names.specs.Held.{holdings_of}
+use Rattle.mpd_names.specs.Reads.{statement_reads, reads_of}
 
 abbrev decl : DeclKind → List ℕ → Option ℕ → Declared
 decl kind name many = record { kind = kind; name = name; size = many }
@@ -88,20 +89,30 @@ program = record { version = 1; ranks = 2; decls = six; body = []; lines = [] }
 abbrev rank_at : ℕ → List (ℕ × Tree) → RankWorld
 rank_at k rest = record { rest = rest; vars = pos k ∷ pos 1 ∷ pos 7 ∷ pos 0 ∷ pos 2 ∷ negsuc 2 ∷ pos (k + 5) ∷ []; handles = None ∷ None ∷ []; out = []; activity = Trapped BadRank }
 
-abbrev world : RankWorld → RankWorld → World
-world p q = record { ranks = p ∷ q ∷ []; board = start_board 2 Rendezvous }
-
-abbrev held : ℕ → List (ℕ × Tree) → List ℕ
-held p rest = read_text program (world (rank_at 3 rest) (rank_at 4 rest)) p (Some (rank_at (3 + p) rest))
+abbrev held : ℕ → List (ℕ × Tree) → List Holding
+held p rest = reads_of program (Some (rank_at (3 + p) rest))
 
 -- of the first statement alone, by rank 0 and rank 1
 abbrev rests : List (List (ℕ × Tree))
 rests = ((0, simple (st.Recv received)) ∷ (1, simple (st.Print (a i))) ∷ []) ∷ ((0, simple (st.Print (op2 Add (a x) i))) ∷ []) ∷ ((0, simple st.Barrier) ∷ (1, simple (st.Print x)) ∷ []) ∷ [] ∷ []
 
-pub row_held : map {B = List ℕ} (held 0) rests ≡ codes ", with i = 3, x = 7, z = 8" ∷ codes ", with i = 3, x = 7, a = [0, 2, -3]" ∷ [] ∷ [] ∷ []
-unfolding digits
+-- the values of the declaration of a number
+abbrev has : ℕ → List ℤ → Holding
+has d vs = record { declaration = d; held = Values vs }
+
+pub row_held : map {B = List Holding} (held 0) rests
+    ≡ (has 0 (pos 3 ∷ []) ∷ has 2 (pos 7 ∷ []) ∷ has 5 (pos 8 ∷ []) ∷ []) ∷ (has 0 (pos 3 ∷ []) ∷ has 2 (pos 7 ∷ []) ∷ has 3 (pos 0 ∷ pos 2 ∷ negsuc 2 ∷ []) ∷ []) ∷ [] ∷ [] ∷ []
 row_held = refl
 
-pub row_held_by_another : map {B = List ℕ} (held 1) rests ≡ codes ", with i = 4, x = 7, z = 9" ∷ codes ", with i = 4, x = 7, a = [0, 2, -3]" ∷ [] ∷ [] ∷ []
-unfolding digits
+pub row_held_by_another : map {B = List Holding} (held 1) rests
+    ≡ (has 0 (pos 4 ∷ []) ∷ has 2 (pos 7 ∷ []) ∷ has 5 (pos 9 ∷ []) ∷ []) ∷ (has 0 (pos 4 ∷ []) ∷ has 2 (pos 7 ∷ []) ∷ has 3 (pos 0 ∷ pos 2 ∷ negsuc 2 ∷ []) ∷ []) ∷ [] ∷ [] ∷ []
 row_held_by_another = refl
+
+-- all that a rank holds
+pub row_holdings : holdings_of program (Some (rank_at 3 []))
+    ≡ has 0 (pos 3 ∷ []) ∷ has 1 (pos 1 ∷ []) ∷ has 2 (pos 7 ∷ []) ∷ has 3 (pos 0 ∷ pos 2 ∷ negsuc 2 ∷ []) ∷ record { declaration = 4; held = Calls (None ∷ None ∷ []) } ∷ has 5 (pos 8 ∷ []) ∷ []
+row_holdings = refl
+
+-- a rank that isn't there
+pub row_nobody : reads_of program None ≡ []
+row_nobody = refl

@@ -1,16 +1,16 @@
 -- What a statement reads, and what a rank holds in that.
-use Rattle.std.specs.Prelude.{ℕ, Bool, false, ◌||◌, ◌==◌, if◌then◌else◌, List, [], ◌∷◌, length, slice_get, Option, Some, None, codes}
-use Rattle.std.specs.List.{flat_map, list_any, range_with_len}
+use Rattle.std.specs.Prelude.{ℕ, Bool, false, ◌||◌, ◌==◌, List, [], ◌∷◌, Option, Some, None}
+use Rattle.std.specs.List.{list_any}
 use Rattle.mpd_model.specs.declared.stmt.Simple as stmt
-use Rattle.mpd_model.specs.script.Declaration.{Declared}
 use Rattle.mpd_model.specs.script.Term.{Term, lit, own_rank, size, cell, element, op1, op2}
 use Rattle.mpd_model.specs.script.Parts.{Part, of_term, of_target, parts_of}
 use Rattle.mpd_model.specs.script.Tree.{Tree, simple, branch, repeat}
 use Rattle.mpd_model.specs.script.Program.{Program}
-use Rattle.mpd_model.specs.steps.World.{RankWorld, World}
+use Rattle.mpd_model.specs.steps.World.{RankWorld}
 use Rattle.mpd_code.specs.declared.node.Action.{Action}
 use Rattle.mpd_code.specs.declared.node.Action.TheVariants.{Simple, Branch, Repeat}
-use Rattle.mpd_names.specs.Held.{begun, short_text}
+use Rattle.mpd_names.specs.declared.holding.Holding.{Holding}
+use Rattle.mpd_names.specs.Held.{holdings_if}
 
 -- whether the variable of declaration d stands in an expression
 abbrev pub reads : ℕ → Term → Bool
@@ -50,26 +50,13 @@ action_reads d (Repeat test body) = reads d test
 
 -- ---- what a rank holds in what is read
 
--- `i = 3`, of the declaration of number i
-abbrev pub declared_text : Program → World → ℕ → ℕ → Option Declared → List (List ℕ)
-declared_text s w p i None = []
-declared_text s w p i (Some d) = short_text s w p i d ∷ []
-
--- that, where it is read
-abbrev pub text_if : Program → World → ℕ → (ℕ → Bool) → ℕ → List (List ℕ)
-text_if s w p is_read i = if is_read i then declared_text s w p i (slice_get s.decls i) else []
-
--- those of all declarations
-abbrev pub texts_if : Program → World → ℕ → (ℕ → Bool) → List (List ℕ)
-texts_if s w p is_read = flat_map (text_if s w p is_read) (range_with_len 0 (length s.decls))
-
 -- of what is left to run the first statement is the one that counts
-abbrev pub texts_read : Program → World → ℕ → List (ℕ × Tree) → List (List ℕ)
-texts_read s w p [] = []
-texts_read s w p (t ∷ ts) = texts_if s w p (λ d. statement_reads d t.1)
+abbrev pub reads_in : Program → Option RankWorld → List (ℕ × Tree) → List Holding
+reads_in s r [] = []
+reads_in s r (t ∷ ts) = holdings_if s r (λ d. statement_reads d t.1)
 
--- `, with sum = 102, i = 3`: what a rank holds in the variables that its next statement reads, in the order of their declarations. A rank
--- that is trapped has that statement still before it, and holds what it held then.
-abbrev pub read_text : Program → World → ℕ → Option RankWorld → List ℕ
-read_text s w p None = []
-read_text s w p (Some r) = begun (codes ", with ") (texts_read s w p r.rest)
+-- What a rank holds in the variables that its next statement reads, in the order of their declarations. A rank that is trapped has that
+-- statement still before it, and holds what it held then.
+abbrev pub reads_of : Program → Option RankWorld → List Holding
+reads_of s None = []
+reads_of s (Some r) = reads_in s (Some r) r.rest

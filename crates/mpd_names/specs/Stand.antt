@@ -1,17 +1,15 @@
 -- Where ranks stand in a script.
-use Rattle.std.specs.Prelude.{ℕ, Bool, false, if◌then◌else◌, List, ◌++◌, Option, Some, None, slice_get, codes}
-use Rattle.std.specs.Fmt.{decimal}
+use Rattle.std.specs.Prelude.{ℕ, Bool, false, if◌then◌else◌, List, Option, Some, None, slice_get}
 use Rattle.mpd_model.specs.declared.call.Activity.{Activity}
 use Rattle.mpd_model.specs.declared.call.Activity.TheVariants.{Running, Blocked, Trapped}
 use Rattle.mpd_model.specs.script.Program.{Program}
 use Rattle.mpd_model.specs.steps.World.{RankWorld, World, Board, call_at, last_call}
 use Rattle.mpd_model.specs.steps.Outcomes.{has_ended}
 use Rattle.mpd_model.specs.steps.Next.{can_wake}
-use Rattle.mpd_model.specs.texts.Texts.{trap_name}
 use Rattle.mpd_names.specs.declared.place.PlacedCall.{PlacedCall}
 use Rattle.mpd_names.specs.declared.place.Stands.{Stands}
 use Rattle.mpd_names.specs.declared.place.Stands.TheVariants as at
-use Rattle.mpd_names.specs.Placed.{issue_line, rank_line, placed_call_of, placed_text}
+use Rattle.mpd_names.specs.Placed.{issue_line, rank_line, placed_call_of}
 
 abbrev pub ended_by : Option RankWorld → Bool
 ended_by None = false
@@ -65,11 +63,3 @@ line_of (at.At line) = Some line
 line_of (at.Waits call) = Some call.line
 line_of (at.CanGoOn call) = Some call.line
 line_of (at.Trapped line t) = Some line
-
--- ` waits at line 9, 0.1 recv from 1 tag 7`
-abbrev pub stands_text : Stands → List ℕ
-stands_text at.Ended = codes " has ended"
-stands_text (at.At line) = codes " is at line " ++ decimal line
-stands_text (at.Waits call) = codes " waits at " ++ placed_text call
-stands_text (at.CanGoOn call) = codes " can go on from " ++ placed_text call
-stands_text (at.Trapped line t) = codes " is trapped at line " ++ decimal line ++ codes ": " ++ trap_name t

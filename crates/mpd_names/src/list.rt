@@ -1,12 +1,6 @@
 //! The script, and which ranks stand at its lines.
 
-ghost use Rattle.std.specs.Prelude.{◌≡◌, ◌<◌, ◌++◌, ℕ, List, IfOk, OnOk, map, string_bytes};
-ghost use Rattle.std.specs.List.{list_any};
-ghost use Rattle.mpd_model.specs.steps.World.{rank_numbers};
-ghost use Rattle.mpd_model.specs.texts.Lines.{lines_of};
-ghost use Rattle.mpd_names.specs.Held.{begun};
-ghost use Rattle.mpd_names.specs.Stand.{rank_ended};
-ghost use Rattle.mpd_names.specs.Listed as listed;
+ghost use Rattle.std.specs.Prelude.{◌<◌};
 
 use crate::standing::{can_wake, has_ended, stand};
 use mpd_core::Core;
@@ -14,16 +8,12 @@ use mpd_model::{Activity, bare_line, cut_line};
 use std::alloc::AllocError;
 
 /// What is said of a blocked rank, by whether its call is complete.
-fn blocked_note(can_wake: bool) -> &'static str
-    ensures { result.now ≡ listed.blocked_note can_wake }
-{
+fn blocked_note(can_wake: bool) -> &'static str {
     if can_wake { " can go on" } else { " waits" }
 }
 
 /// What is said of a rank that doesn't run.
-fn activity_note(core: &Core<'_>, rank: usize) -> &'static str
-    ensures { result.now ≡ listed.activity_note core.now.world rank }
-{
+fn activity_note(core: &Core<'_>, rank: usize) -> &'static str {
     match core.activity(rank) {
         None => "",
         Some(Activity::Running) => "",
@@ -38,9 +28,7 @@ fn push_named_rank(
     out: &mut String,
     before: &str,
     rank: usize,
-) -> Result<(), AllocError>
-    ensures { OnOk result (string_bytes out.new ≡ string_bytes out.old ++ (before.now ++ listed.named_rank core.now.world rank)) }
-{
+) -> Result<(), AllocError> {
     out.push_str(before)?;
     let activity_note = activity_note(core, rank);
     write!(out, "rank {rank}{activity_note}")
@@ -48,16 +36,13 @@ fn push_named_rank(
 
 /// Adds a rank that stands at a line, after `before`, and nothing if it doesn't. Returns what
 /// stands before the next.
-#[tactic(auto, using(crate::proofs::ListLemmas::beginning))]
 fn push_rank_at(
     core: &Core<'_>,
     out: &mut String,
     before: &'static str,
     line: usize,
     rank: usize,
-) -> Result<&'static str, AllocError>
-    ensures { IfOk result (λ next. (ts : List (List ℕ)) → string_bytes out.new ++ begun next.now ts ≡ string_bytes out.old ++ begun before.now (listed.rank_at_line core.now.program core.now.world line rank ++ ts)) }
-{
+) -> Result<&'static str, AllocError> {
     if stand(core, rank) != Some(line) {
         return Ok(before);
     }
@@ -66,9 +51,7 @@ fn push_rank_at(
 }
 
 /// Adds the ranks that stand at a line.
-fn push_ranks_at(core: &Core<'_>, out: &mut String, line: usize) -> Result<(), AllocError>
-    ensures { OnOk result (string_bytes out.new ≡ string_bytes out.old ++ listed.ranks_at_line core.now.program core.now.world line) }
-{
+fn push_ranks_at(core: &Core<'_>, out: &mut String, line: usize) -> Result<(), AllocError> {
     let mut before = "  <- ";
     let count = core.rank_count();
     for rank in 0..count {
@@ -79,16 +62,13 @@ fn push_ranks_at(core: &Core<'_>, out: &mut String, line: usize) -> Result<(), A
 
 /// How a byte of a script is shown.
 fn shown(byte: u8) -> u8
-    ensures value { result ≡ listed.shown byte }
     ensures ascii { result < 128 }
 {
     if byte < 128 { byte } else { b'?' }
 }
 
 /// Adds the bytes of a line.
-pub(crate) fn push_shown(out: &mut String, line: &[u8]) -> Result<(), AllocError>
-    ensures { OnOk result (string_bytes out.new ≡ string_bytes out.old ++ map listed.shown line.now) }
-{
+pub(crate) fn push_shown(out: &mut String, line: &[u8]) -> Result<(), AllocError> {
     for byte in line {
         out.push(shown(*byte) as char)?;
     }
@@ -96,9 +76,7 @@ pub(crate) fn push_shown(out: &mut String, line: &[u8]) -> Result<(), AllocError
 }
 
 /// Adds a number, to the right in five columns.
-pub(crate) fn push_column(out: &mut String, number: usize) -> Result<(), AllocError>
-    ensures { OnOk result (string_bytes out.new ≡ string_bytes out.old ++ listed.column number) }
-{
+pub(crate) fn push_column(out: &mut String, number: usize) -> Result<(), AllocError> {
     write!(out, "{number:>5}")
 }
 
@@ -108,9 +86,7 @@ fn push_line(
     out: &mut String,
     number: usize,
     line: &[u8],
-) -> Result<(), AllocError>
-    ensures { OnOk result (string_bytes out.new ≡ string_bytes out.old ++ listed.list_line core.now.program core.now.world number line.now) }
-{
+) -> Result<(), AllocError> {
     push_column(out, number)?;
     out.push_str("  ")?;
     push_shown(out, line)?;
@@ -119,12 +95,10 @@ fn push_line(
 }
 
 /// Whether a line is shown: each, or those about one.
-fn is_shown(about: Option<usize>, number: usize) -> bool
-    ensures { result ≡ listed.is_shown about number }
-{
+fn is_shown(about: Option<usize>, number: usize) -> bool {
     match about {
         None => true,
-        Some(about) => about.saturating_sub(number) + number.saturating_sub(about) <= 4,
+        Some(about) => about.abs_diff(number) <= 4,
     }
 }
 
@@ -135,9 +109,7 @@ fn push_line_if(
     about: Option<usize>,
     number: usize,
     line: &[u8],
-) -> Result<(), AllocError>
-    ensures { OnOk result (string_bytes out.new ≡ string_bytes out.old ++ listed.list_line_if core.now.program core.now.world about number line.now) }
-{
+) -> Result<(), AllocError> {
     if is_shown(about, number) {
         push_line(core, out, number, line)
     } else {
@@ -146,20 +118,17 @@ fn push_line_if(
 }
 
 /// Adds the lines of a text, all or those about one.
-#[tactic(auto, using(crate::proofs::ListLemmas::listing))]
 fn push_lines(
     core: &Core<'_>,
     out: &mut String,
     about: Option<usize>,
     text: &[u8],
-) -> Result<(), AllocError>
-    ensures { OnOk result (string_bytes out.new ≡ string_bytes out.old ++ listed.list_lines core.now.program core.now.world about 0 (lines_of text.now)) }
-{
+) -> Result<(), AllocError> {
     let mut rest = text;
-    let mut above = 0;
+    let mut number = 0usize;
     while let Some((line, behind)) = cut_line(rest) {
-        push_line_if(core, out, about, above + 1, bare_line(line))?;
-        above += 1;
+        number = number.saturating_add(1);
+        push_line_if(core, out, about, number, bare_line(line))?;
         rest = behind;
     }
     Ok(())
@@ -167,15 +136,12 @@ fn push_lines(
 
 /// Adds a rank that has ended, after `before`, and nothing if it hasn't. Returns what stands before
 /// the next.
-#[tactic(auto, using(crate::proofs::ListLemmas::beginning))]
 fn push_ended_at(
     core: &Core<'_>,
     out: &mut String,
     before: &'static str,
     rank: usize,
-) -> Result<&'static str, AllocError>
-    ensures { IfOk result (λ next. (ts : List (List ℕ)) → string_bytes out.new ++ begun next.now ts ≡ string_bytes out.old ++ begun before.now (listed.ended_at core.now.world rank ++ ts)) }
-{
+) -> Result<&'static str, AllocError> {
     if !has_ended(core, rank) {
         return Ok(before);
     }
@@ -184,9 +150,7 @@ fn push_ended_at(
 }
 
 /// Adds the ranks that have ended.
-fn push_all_ended(core: &Core<'_>, out: &mut String) -> Result<(), AllocError>
-    ensures { OnOk result (string_bytes out.new ≡ string_bytes out.old ++ listed.ended_text core.now.world) }
-{
+fn push_all_ended(core: &Core<'_>, out: &mut String) -> Result<(), AllocError> {
     let mut before = "ended: ";
     let count = core.rank_count();
     for rank in 0..count {
@@ -196,23 +160,12 @@ fn push_all_ended(core: &Core<'_>, out: &mut String) -> Result<(), AllocError>
 }
 
 /// Whether some rank has ended.
-#[tactic(auto, using(crate::proofs::ListLemmas::seeking))]
-fn some_ended(core: &Core<'_>) -> bool
-    ensures { result ≡ list_any (rank_ended core.now.world) (rank_numbers core.now.world.board) }
-{
-    let count = core.rank_count();
-    for rank in 0..count {
-        if has_ended(core, rank) {
-            return true;
-        }
-    }
-    false
+fn some_ended(core: &Core<'_>) -> bool {
+    (0..core.rank_count()).any(|rank| has_ended(core, rank))
 }
 
 /// Adds the line of the ranks that have ended, if some have.
-fn push_ended(core: &Core<'_>, out: &mut String) -> Result<(), AllocError>
-    ensures { OnOk result (string_bytes out.new ≡ string_bytes out.old ++ listed.ended_line core.now.world) }
-{
+fn push_ended(core: &Core<'_>, out: &mut String) -> Result<(), AllocError> {
     if !some_ended(core) {
         return Ok(());
     }
@@ -221,9 +174,7 @@ fn push_ended(core: &Core<'_>, out: &mut String) -> Result<(), AllocError>
 }
 
 /// Adds the text of a script line by line, with the ranks that stand at each, and below it those that have ended.
-pub fn push_list(core: &Core<'_>, out: &mut String, text: &[u8]) -> Result<(), AllocError>
-    ensures { OnOk result (string_bytes out.new ≡ string_bytes out.old ++ listed.list_text core.now.program core.now.world text.now) }
-{
+pub fn push_list(core: &Core<'_>, out: &mut String, text: &[u8]) -> Result<(), AllocError> {
     push_lines(core, out, None, text)?;
     push_ended(core, out)
 }
@@ -235,9 +186,7 @@ pub fn push_list_about(
     out: &mut String,
     text: &[u8],
     rank: usize,
-) -> Result<(), AllocError>
-    ensures { OnOk result (string_bytes out.new ≡ string_bytes out.old ++ listed.about_text core.now.program core.now.world text.now rank) }
-{
+) -> Result<(), AllocError> {
     if rank >= core.rank_count() {
         return Ok(());
     }

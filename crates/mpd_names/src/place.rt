@@ -1,7 +1,6 @@
 //! Where a call was issued, and where a rank stands, as values; and the words for them.
 
 ghost use Rattle.std.specs.Prelude.{◌≡◌};
-ghost use Rattle.mpd_names.specs.Placed.{placed_text};
 ghost use Rattle.mpd_names.specs.Stand as spec;
 
 use mpd_model::{CallId, CallKind, Trap};
@@ -18,10 +17,6 @@ pub struct PlacedCall {
 }
 
 impl fmt::Display for PlacedCall {
-    ghost use Rattle.std.specs.Prelude.{Some};
-
-    ghost output = { λ c. Some (placed_text c) };
-
     fn fmt<W: fmt::Write>(&self, f: &mut fmt::Formatter<W>) -> fmt::Result {
         match self.kind {
             None => write!(f, "line {}, {}", self.line, self.call),
@@ -62,10 +57,6 @@ impl Stands {
 }
 
 impl fmt::Display for Stands {
-    ghost use Rattle.std.specs.Prelude.{Some};
-
-    ghost output = { λ s. Some (spec.stands_text s) };
-
     fn fmt<W: fmt::Write>(&self, f: &mut fmt::Formatter<W>) -> fmt::Result {
         match *self {
             Stands::Ended => write!(f, " has ended"),

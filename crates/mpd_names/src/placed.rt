@@ -1,13 +1,12 @@
 //! Where calls and ranks stand in a script.
 
-ghost use Rattle.std.specs.Prelude.{◌≡◌, ◌++◌, OnOk, slice_get, string_bytes};
+ghost use Rattle.std.specs.Prelude.{◌≡◌, slice_get};
 ghost use Rattle.mpd_model.specs.steps.World.{call_at};
 ghost use Rattle.mpd_names.specs.Placed as spec;
 
 use crate::place::PlacedCall;
 use mpd_core::Core;
 use mpd_model::CallId;
-use std::alloc::AllocError;
 
 /// The line of a statement, 0 if there is none.
 pub(crate) fn statement_line(lines: &[usize], number: Option<usize>) -> usize
@@ -50,21 +49,4 @@ pub fn placed_call(core: &Core<'_>, call: CallId) -> PlacedCall
         line: issue_line(core, call),
         kind: core.board().kind(call),
     }
-}
-
-/// Adds where a call was issued, its number, and what it is. `Err` means that memory was refused.
-pub fn push_placed(core: &Core<'_>, out: &mut String, call: CallId) -> Result<(), AllocError>
-    ensures { OnOk result (string_bytes out.new ≡ string_bytes out.old ++ spec.placed core.now.program core.now.world.board call) }
-{
-    let placed = placed_call(core, call);
-    write!(out, "{placed}")
-}
-
-/// Adds the rank of a call, and its line, as `rank 1, line 5`. `Err` means that memory was refused.
-pub fn push_issuer(core: &Core<'_>, out: &mut String, call: CallId) -> Result<(), AllocError>
-    ensures { OnOk result (string_bytes out.new ≡ string_bytes out.old ++ spec.issuer core.now.program core.now.world.board call) }
-{
-    let rank = call.rank;
-    let line = issue_line(core, call);
-    write!(out, "rank {rank}, line {line}")
 }

@@ -1,8 +1,7 @@
 //! Lines of the script that something is about.
 
-ghost use Rattle.std.specs.Prelude.{◌≡◌, ◌++◌, OnOk, MatchOption, None, Some, slice_get, string_bytes};
+ghost use Rattle.std.specs.Prelude.{◌≡◌, MatchOption, None, Some, slice_get};
 ghost use Rattle.mpd_model.specs.texts.Lines.{lines_of};
-ghost use Rattle.mpd_names.specs.Sources as spec;
 
 use crate::list::{push_column, push_shown};
 use mpd_model::{bare_line, cut_line};
@@ -27,9 +26,7 @@ fn line_behind(text: &[u8], above: usize) -> Option<&[u8]>
 }
 
 /// Adds a line of the script, which has this number.
-fn push_source_line(out: &mut String, number: usize, line: &[u8]) -> Result<(), AllocError>
-    ensures { OnOk result (string_bytes out.new ≡ string_bytes out.old ++ spec.source_line number (Some line.now)) }
-{
+fn push_source_line(out: &mut String, number: usize, line: &[u8]) -> Result<(), AllocError> {
     push_column(out, number)?;
     out.push_str("  ")?;
     push_shown(out, line)?;
@@ -38,10 +35,7 @@ fn push_source_line(out: &mut String, number: usize, line: &[u8]) -> Result<(), 
 
 /// Adds the line of a number of a text, and nothing if there is none. `Err` means that memory was
 /// refused.
-#[tactic(auto, using(crate::proofs::SourceLemmas::numbering))]
-pub fn push_source(out: &mut String, text: &[u8], number: usize) -> Result<(), AllocError>
-    ensures { OnOk result (string_bytes out.new ≡ string_bytes out.old ++ spec.source text.now number) }
-{
+pub fn push_source(out: &mut String, text: &[u8], number: usize) -> Result<(), AllocError> {
     if number < 1 {
         return Ok(());
     }

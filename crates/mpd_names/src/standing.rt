@@ -30,7 +30,7 @@ pub fn can_wake(core: &Core<'_>, rank: usize) -> bool
 
 /// Whether a rank is there, and has ended.
 #[tactic(auto, using(crate::proofs::StandLemmas::absent))]
-pub(crate) fn has_ended(core: &Core<'_>, rank: usize) -> bool
+pub fn has_ended(core: &Core<'_>, rank: usize) -> bool
     ensures { result ≡ standing.rank_ended core.now.world rank }
 {
     if rank >= core.rank_count() {

@@ -1,10 +1,10 @@
-use Rattle.std.proofs.Common.{◌≡◌, ◌++◌, map, drop, string_bytes}
+use Rattle.std.proofs.Common.{◌≡◌, ◌++◌, map, drop}
 use Rattle.mpd_model.specs.runs.Trail.{done_steps, IsReached}
 use Rattle.mpd_trail.specs.DebuggerViews.{standing_of}
 use Rattle.std.specs.List.{AllByRecursion}
 use Rattle.mpd_policy.specs.Wide.{wide_decision}
 use Rattle.mpd_explore.specs.Witness.{HasWitness}
-use Rattle.mpd_diagnose.specs.Headings.{heading_of, lines_of, steps_to}
+use Rattle.mpd_diagnose.specs.Causes.{leaf_end}
 use Rattle.mpd_diagnose.proofs.along.ends_of.Given as goal
 
 abbrev pub invariant-loop-leaf : goal.invariant-loop-leaf
@@ -12,8 +12,6 @@ invariant-loop-leaf l = record {
   trail : l.debugger.trail ≡ l.fn.debugger.trail;
   world : l.debugger.world ≡ l.fn.debugger.world;
   reached : IsReached (standing_of l.debugger);
-  headings : map string_bytes l.ends.headings.items ++ map (heading_of l.fn.debugger.trail.program l.fuel l.fn.debugger.world) (drop l.leaf-index l.leaves) ≡ map (heading_of l.fn.debugger.trail.program l.fuel l.fn.debugger.world) l.leaves;
-  lines : l.ends.lines.items ++ map (lines_of l.fn.debugger.trail.program l.fuel l.fn.debugger.world) (drop l.leaf-index l.leaves) ≡ map (lines_of l.fn.debugger.trail.program l.fuel l.fn.debugger.world) l.leaves;
-  steps : l.ends.steps.items ++ map (steps_to l.fuel l.fn.debugger.world) (drop l.leaf-index l.leaves) ≡ map (steps_to l.fuel l.fn.debugger.world) l.leaves;
+  ends : l.ends.items ++ map (leaf_end l.fn.debugger.trail.program l.fuel l.fn.debugger.world) (drop l.leaf-index l.leaves) ≡ map (leaf_end l.fn.debugger.trail.program l.fuel l.fn.debugger.world) l.leaves;
   listed : AllByRecursion (HasWitness wide_decision l.fn.debugger.trail.program l.fn.debugger.trail.mode (done_steps l.fn.debugger.trail) l.fuel l.fn.debugger.world) (drop l.leaf-index l.leaves);
 }

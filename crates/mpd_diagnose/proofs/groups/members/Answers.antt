@@ -1,8 +1,7 @@
-use Rattle.std.proofs.Common.{map, string_bytes}
-use Rattle.mpd_explain.specs.Told.{same_at}
-use Rattle.mpd_explain.proofs.PrintLemmas.{filter_more}
+use Rattle.mpd_diagnose.specs.Groups.{same_at}
+use Rattle.mpd_explain.proofs.ListLemmas.{filter_more}
 use Rattle.mpd_diagnose.proofs.groups.members.Goals as goal
 
-pub loop-number-preserved : goal.loop-number-preserved
-loop-number-preserved c =
-    filter_more (same_at (map string_bytes c.args.headings.now) c.args.text.now) c.loop-number.number _ c.is_called.result c.loop-number.numbers.items _ _ c.loop-number-test.true c.loop-number.invariant c.is_called.ensures c.in_ok-push_if.ensures
+pub loop-other-preserved : goal.loop-other-preserved
+loop-other-preserved c =
+    filter_more (same_at c.args.ends.now c.args.number) c.loop-other.other _ c.same_at.result c.loop-other.numbers.items _ _ c.loop-other-test.true c.loop-other.invariant c.same_at.ensures c.in_ok-push_if.ensures

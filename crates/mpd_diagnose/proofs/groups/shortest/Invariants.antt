@@ -3,4 +3,4 @@ use Rattle.mpd_diagnose.specs.Groups.{shortest}
 use Rattle.mpd_diagnose.proofs.groups.shortest.Given as goal
 
 abbrev pub invariant-loop-other : goal.invariant-loop-other
-invariant-loop-other l = shortest l.steps l.shown (drop l.other-index l.others) ≡ shortest l.steps l.number l.others
+invariant-loop-other l = shortest l.ends l.shown (drop l.other-index l.others) ≡ shortest l.ends l.number l.others

@@ -1,8 +1,7 @@
-use Rattle.std.proofs.Common.{◌≡◌, ◌-◌, ◌++◌, string_bytes}
-use Rattle.std.specs.List.{filter, flat_map, range_with_len}
-use Rattle.mpd_model.specs.steps.World.{is_posted}
-use Rattle.mpd_explain.specs.Shown.{posted_line, posted_lines}
+use Rattle.std.proofs.Common.{◌≡◌, ◌-◌, ◌++◌}
+use Rattle.std.specs.List.{flat_map, range_with_len}
+use Rattle.mpd_explain.specs.Shown.{posted_at, posted_of}
 use Rattle.mpd_explain.proofs.looks.push_posted.Given as goal
 
 abbrev pub invariant-loop-index : goal.invariant-loop-index
-invariant-loop-index l = string_bytes l.out ++ flat_map (posted_line l.core.program l.core.world.board l.rank) (filter (is_posted l.core.world.board l.rank) (range_with_len l.index (l.count - l.index))) ≡ string_bytes l.fn.out ++ posted_lines l.core.program l.core.world.board l.rank
+invariant-loop-index l = l.calls.items ++ flat_map (posted_at l.core.program l.core.world.board l.rank) (range_with_len l.index (l.count - l.index)) ≡ l.fn.calls.items ++ posted_of l.core.program l.core.world.board l.rank

@@ -1,6 +1,6 @@
 use Rattle.std.proofs.Common.{not, ap}
 use Rattle.mpd_model.specs.steps.Next.{is_at_barrier}
-use Rattle.mpd_explain.proofs.PrintLemmas.{filter_more}
+use Rattle.mpd_explain.proofs.ListLemmas.{filter_more}
 use Rattle.mpd_explain.proofs.waits.absent.Goals as goal
 
 pub loop-rank-preserved : goal.loop-rank-preserved

@@ -1,5 +1,5 @@
 use Rattle.mpd_explain.specs.Waits.{is_awaited}
-use Rattle.mpd_explain.proofs.PrintLemmas.{filter_more}
+use Rattle.mpd_explain.proofs.ListLemmas.{filter_more}
 use Rattle.mpd_explain.proofs.waits.awaited_by.Goals as goal
 
 pub loop-rank-preserved : goal.loop-rank-preserved

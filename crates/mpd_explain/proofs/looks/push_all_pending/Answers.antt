@@ -1,8 +1,0 @@
-use Rattle.std.proofs.Common.{string_bytes}
-use Rattle.mpd_core.proofs.RangeLemmas.{given_more}
-use Rattle.mpd_explain.specs.Shown.{pending_from}
-use Rattle.mpd_explain.proofs.looks.push_all_pending.Goals as goal
-
-pub loop-sender-preserved : goal.loop-sender-preserved
-loop-sender-preserved c =
-    given_more (pending_from c.args.core.now.program c.args.core.now.world.board) c.loop-sender.sender c.rank_count-count.result (string_bytes c.loop-sender.out) _ _ c.loop-sender-test.true c.loop-sender.invariant c.in_ok-push_pending_from.ensures
