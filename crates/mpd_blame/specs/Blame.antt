@@ -1,5 +1,5 @@
--- The step that decided how a run ends: the last state of the run from which some run of the wide walk ends well, and the step that was
--- taken there.
+-- The step that decided how a run ends: the last state of the run from which some run of the wide
+-- walk ends well, and the step that was taken there.
 use Rattle.std.specs.Prelude.{◌≡◌, ◌⊎◌, ℕ, zero, suc, ◌+◌, ◌-◌, ◌<◌, ◌≤◌, Bool, true, false, List, [], ◌∷◌, length, take, slice_get, Option, Some, None}
 use Rattle.std.specs.List.{find, list_all, list_any}
 use Rattle.mpd_model.specs.declared.step.Step.{Step}
@@ -35,7 +35,8 @@ ends_badly l = meets goal_is.Bad l.ending
 abbrev pub is_doomed : ℕ → World → Bool
 is_doomed fuel w = list_all ends_badly (leaves_from fuel w)
 
--- Some run from this state ends well, and this is the first step of the first of these; none where that has none.
+-- Some run from this state ends well, and this is the first step of the first of these; none where
+-- that has none.
 pub record FirstWell (fuel : ℕ) (w : World) (step : Option Step) : Type 0 where
   pub leaf : SearchLeaf
   pub first : find ends_well (leaves_from fuel w) ≡ Some leaf
@@ -43,8 +44,9 @@ pub record FirstWell (fuel : ℕ) (w : World) (step : Option Step) : Type 0 wher
   pub by : run_by wide_decision fuel leaf.choices w ≡ Some run
   pub begins : slice_get run.steps 0 ≡ step
 
--- Of the runs from this state some were come to, the first ones, and none of these ends well. There are others, and along these and the next
--- one there stand as many states as may be come to; or there are none, and one doesn't end badly.
+-- Of the runs from this state some were come to, the first ones, and none of these ends well. There
+-- are others, and along these and the next one there stand as many states as may be come to; or
+-- there are none, and one doesn't end badly.
 pub record NotKnown (most fuel : ℕ) (w : World) : Type 0 where
   pub runs : ℕ
   pub few : runs ≤ length (leaves_from fuel w)
@@ -81,8 +83,8 @@ pub record IsDecided (limit : ℕ) (first : World) (steps : List Step) (d : Deci
   pub other : FirstWell (limit - d.depth) world (Some d.other)
   pub doomed : DoomedFrom limit first steps (suc d.depth)
 
--- After more than so many steps every run ends badly, and after so many it isn't known: so many states may be come to, less those of all runs
--- from each later state.
+-- After more than so many steps every run ends badly, and after so many it isn't known: so many
+-- states may be come to, less those of all runs from each later state.
 pub record IsEarlier (most limit : ℕ) (first : World) (steps : List Step) (n : ℕ) : Type 0 where
   pub before : n < length steps
   pub world : World
@@ -124,8 +126,9 @@ IsOnly (Forced b) a = b ≡ a
 IsOnly (Choice candidates) a = candidates ≡ a ∷ []
 IsOnly (Ends o) a = ⊥
 
--- What is left of the limits once the runs from a state were looked at: what there was where this step alone can come next, since then nothing
--- is looked at; else less by as many states as were come to, of which there is one at least where any may be.
+-- What is left of the limits once the runs from a state were looked at: what there was where this
+-- step alone can come next, since then nothing is looked at; else less by as many states as were
+-- come to, of which there is one at least where any may be.
 abbrev pub Spends : StateLimits → ℕ → World → Option Step → StateLimits → Type 0
 Spends old fuel w None new = ⊥
 Spends old fuel w (Some a) new =

@@ -46,7 +46,8 @@ pub record IsBlamed (most limit : ℕ) (s : Program) (mode : Mode) (steps : List
   pub there : IsThere (start s mode) steps told.blame world
   pub told_is : told ≡ placed_blame s world told.blame
 
--- the same of a leaf from where a debugger stands, which is the start: nothing where it doesn't end badly
+-- the same of a leaf from where a debugger stands, which is the start: nothing where it doesn't end
+-- badly
 abbrev pub JudgedIf : ℕ → ℕ → Standing → SearchLeaf → Bool → Option PlacedBlame → Type 0
 JudgedIf most limit d l false o = o ≡ None
 JudgedIf most limit d l true None = ⊥

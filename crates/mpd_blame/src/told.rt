@@ -59,8 +59,8 @@ pub struct PlacedBlame {
     pub deciding: Option<Deciding>,
 }
 
-/// What is known of a decision, with the step that was taken and the other. The core is in the state
-/// before the step that decided it.
+/// What is known of a decision, with the step that was taken and the other. The core is in the
+/// state before the step that decided it.
 pub fn place_blame(core: &Core<'_>, blame: Blame) -> PlacedBlame
     ensures { result ≡ spec.placed_blame core.now.program core.now.world blame }
 {
@@ -79,8 +79,8 @@ pub fn place_blame(core: &Core<'_>, blame: Blame) -> PlacedBlame
     }
 }
 
-/// Where it was decided how the run ends that a debugger has taken from the start of its script. The
-/// debugger is left on the way back along this run.
+/// Where it was decided how the run ends that a debugger has taken from the start of its script.
+/// The debugger is left on the way back along this run.
 fn blame_here(
     alloc: Global,
     debugger: &mut Debugger<'_>,
@@ -142,9 +142,9 @@ pub fn blame_of_leaf(
     Ok(Some(blame?))
 }
 
-/// The same of each of some leaves of the wide walk. Requires a debugger at the start of its script,
-/// with no undone step. It is left as found, also on `Err`, which means that memory was refused;
-/// this happens only if there is a leaf. Requires a fuel of at most 1,000,000 steps.
+/// The same of each of some leaves of the wide walk. Requires a debugger at the start of its
+/// script, with no undone step. It is left as found, also on `Err`, which means that memory was
+/// refused; this happens only if there is a leaf. Requires a fuel of at most 1,000,000 steps.
 pub fn blames_of_leaves(
     alloc: Global,
     debugger: &mut Debugger<'_>,

@@ -46,7 +46,8 @@ racing = record {
   lines = 2 ∷ 2 ∷ 2 ∷ 2 ∷ [];
 }
 
--- seven local steps, two matches and four wakes in the longer run: so many steps of fuel, and no less, make the walk whole
+-- seven local steps, two matches and four wakes in the longer run: so many steps of fuel, and no
+-- less, make the walk whole
 pub row_racing : map {B = List ℕ × Ending} (λ (r : Run). (r.choices, r.ending)) (walk 13 (start racing Rendezvous))
     ≡ (0 ∷ [], Ended o.Done) ∷ (1 ∷ [], Ended (o.Deadlock (issued_by 2 (call_id 0 1) ∷ issued_by 3 (call_id 1 0) ∷ []))) ∷ []
 unfolding walk decision
@@ -62,7 +63,8 @@ row_none = (((omega arith, (omega arith, tt)), (omega arith, tt)), tt)
 
 -- ---- a walk that sleeps
 
--- ranks 0 and 1 each receive from any source what ranks 2 and 3 send them: if rank < 2 { recv x from any tag any; } else { send rank to rank - 2 tag 0; }
+-- ranks 0 and 1 each receive from any source what ranks 2 and 3 send them: if rank < 2 { recv x
+-- from any tag any; } else { send rank to rank - 2 tag 0; }
 abbrev own_pair : Tree
 own_pair = simple (st.Send (record { value = own_rank; to = op2 Subtract own_rank (n 2); tag = n 0 }))
 

@@ -1,4 +1,5 @@
--- What a report says of all runs, where it says that there are no more leaves, and none of its leaves is cut.
+-- What a report says of all runs, where it says that there are no more leaves, and none of its
+-- leaves is cut.
 use Rattle.std.specs.Prelude.{◌≡◌, ◌≤◌, ◌⊎◌, ℕ, true, false, List, [], length, map, Some}
 use Rattle.std.specs.List.{list_any, Contains}
 use Rattle.mpd_model.specs.declared.step.Step.{Step}
@@ -40,8 +41,9 @@ all_leaves l u = map shown (walk_of l u)
 abbrev pub reported : SearchLimits → World → List SearchLeaf
 reported l u = listed l (all_leaves l u)
 
--- The walk that is asked for leaves out no end: where each end is asked for once it is a wide walk, whatever the script and the mode; where
--- every order is, it is one where the script has no waitany, and buffers never run out.
+-- The walk that is asked for leaves out no end: where each end is asked for once it is a wide walk,
+-- whatever the script and the mode; where every order is, it is one where the script has no
+-- waitany, and buffers never run out.
 abbrev pub HasAllEnds : Program → Mode → SearchLimits → Type 0
 HasAllEnds s mode l = (l.ends ≡ true) ⊎ (HasNoWaitany s × KeepsBuffers mode)
 

@@ -1,4 +1,5 @@
--- The walk by the decisions in which steps may be asleep: only matches are, and none wakes. And what holds of it.
+-- The walk by the decisions in which steps may be asleep: only matches are, and none wakes. And
+-- what holds of it.
 use Rattle.std.specs.Prelude.{◌≡◌, ℕ, Bool, true, false, List, [], Some}
 use Rattle.std.specs.List.{list_any, AllPairs, Contains}
 use Rattle.mpd_model.specs.declared.step.Step.{Step}
@@ -27,8 +28,8 @@ awake_branches = branches_by same_match nothing_wakes
 abbrev pub followed_awake : Bool → (List Step → World → List Run) → List Step → World → Decision → List Run
 followed_awake = followed_by same_match nothing_wakes
 
--- the leaves of the runs from a state with so much fuel, while these steps are asleep: with `true` what was tried falls asleep, with `false`
--- nothing does
+-- the leaves of the runs from a state with so much fuel, while these steps are asleep: with `true`
+-- what was tried falls asleep, with `false` nothing does
 abbrev pub awake_walk : Bool → ℕ → List Step → World → List Run
 awake_walk = awake_by decision same_match nothing_wakes
 

@@ -1,5 +1,6 @@
--- Worked rows of a mode whose buffers run out, in which a walk that is nowhere cut leaves out an end, and two steps that share no call but
--- conflict lead to two worlds. What is wanted was worked out by hand.
+-- Worked rows of a mode whose buffers run out, in which a walk that is nowhere cut leaves out an
+-- end, and two steps that share no call but conflict lead to two worlds. What is wanted was worked
+-- out by hand.
 use Rattle.std.specs.Prelude.{◌≡◌, ◌≤◌, ℕ, ◌+◌, pos, Bool, true, false, map, List, [], ◌∷◌, ◌++◌, slice_get, replicate, Option, Some, None, is_some, codes, refl}
 use Rattle.std.specs.Option.{option_map}
 use Rattle.std.proofs.Common.{arith, sym, ap, ◌∙◌}
@@ -40,7 +41,8 @@ request k = record { place = record { declaration = 1; first = 0; cells = 2 }; i
 abbrev isend : ℕ → ℕ → Tree
 isend k tag = simple (st.Isend (record { request = request k; send = record { value = n 1; to = n 1; tag = n tag } }))
 
--- var x; req r[2]; if rank == 0 { isend r[0] 1 to 1 tag 0; isend r[1] 1 to 1 tag 1; wait r[1]; and then these } else { recv x from 0 tag 0; }
+-- var x; req r[2]; if rank == 0 { isend r[0] 1 to 1 tag 0; isend r[1] 1 to 1 tag 1; wait r[1]; and
+-- then these } else { recv x from 0 tag 0; }
 abbrev pub two_sends : Block → Program
 two_sends behind = record {
   version = 1;
@@ -69,7 +71,8 @@ matched_first = both_there ++ first_pair ∷ Local 0 ∷ Local 0 ∷ Wake 0 ∷ 
 abbrev pub ending_there : Program
 ending_there = two_sends no_more
 
--- with one slot the walk, which takes local steps first, comes to a deadlock: it waits for the second send, which found no slot
+-- with one slot the walk, which takes local steps first, comes to a deadlock: it waits for the
+-- second send, which found no slot
 pub row_walk : map {B = List ℕ × Ending} (λ (r : Run). (r.choices, r.ending)) (walk 8 (start ending_there (Slots 1))) ≡ ([], Ended (o.Deadlock (issued_by 3 (call_id 0 2) ∷ []))) ∷ []
 unfolding walk decision
 row_walk = refl
@@ -85,7 +88,8 @@ left_out = matched_first ++ Wake 1 ∷ []
 pub row_left_out : option_map {U = Outcome × List Step} (λ w. (ending w, enabled w)) (fold (start ending_there (Slots 1)) left_out) ≡ Some (o.Leftovers (issued_by 2 (call_id 0 1) ∷ []), [])
 row_left_out = refl
 
--- in the other modes, with no slot and with two, these steps come to what the walk comes to, or can't be taken
+-- in the other modes, with no slot and with two, these steps come to what the walk comes to, or
+-- can't be taken
 pub row_other_walks : map {B = List (List ℕ × Ending)} (λ (mode : Mode). map {B = List ℕ × Ending} (λ (r : Run). (r.choices, r.ending)) (walk 9 (start ending_there mode))) (Rendezvous ∷ Buffered ∷ Slots 0 ∷ Slots 2 ∷ [])
     ≡ (([], Ended (o.Deadlock (issued_by 3 (call_id 0 2) ∷ []))) ∷ []) ∷ (([], Ended (o.Leftovers (issued_by 2 (call_id 0 1) ∷ []))) ∷ []) ∷ (([], Ended (o.Deadlock (issued_by 3 (call_id 0 2) ∷ []))) ∷ []) ∷ (([], Ended (o.Leftovers (issued_by 2 (call_id 0 1) ∷ []))) ∷ []) ∷ []
 unfolding walk decision

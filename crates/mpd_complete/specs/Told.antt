@@ -1,4 +1,5 @@
--- What commands say of all runs of a script, in the words of what they answer: `check`, a sample, and the console's search.
+-- What commands say of all runs of a script, in the words of what they answer: `check`, a sample,
+-- and the console's search.
 use Rattle.std.specs.Prelude.{◌≡◌, ◌-◌, ◌<◌, ◌≤◌, ◌⊎◌, ℕ, Bool, true, List, [], length, take, Option, Some}
 use Rattle.mpd_model.specs.declared.call.Mode.{Mode}
 use Rattle.mpd_model.specs.script.Program.{Program}
@@ -31,8 +32,9 @@ use Rattle.mpd_check.specs.Checked.{leaves_of, more_of}
 use Rattle.mpd_check.specs.Listing.{sample_leaves, sample_more}
 use Rattle.mpd_complete.specs.Reported.{HaveAllOutcomes, BoundsAllRuns}
 
--- The leaves that `check` writes, by whatever pieces, each end once or in every order: where what it answers tells all, each run from the
--- script's start has at most as many steps as the fuel, can be continued until no step is enabled, and ends as a leaf does.
+-- The leaves that `check` writes, by whatever pieces, each end once or in every order: where what
+-- it answers tells all, each run from the script's start has at most as many steps as the fuel, can
+-- be continued until no step is enabled, and ends as a leaf does.
 abbrev pub ChecksTellAllEnds : Type 0
 ChecksTellAllEnds =
     (s : Program) (mode : Mode) (plan : SearchPlan) → TellsAll plan.limits.ends s mode (tally_of (leaves_of s mode plan) (more_of s mode plan))
@@ -44,7 +46,8 @@ SamplesTellAllEnds =
     (s : Program) (mode : Mode) (seed : ℕ) (l : SearchLimits) → TellsAll true s mode (tally_of (sample_leaves s mode seed l) (sample_more s mode seed l))
     → HaveAllOutcomes (sample_leaves s mode seed l) (start s mode) × BoundsAllRuns l.fuel (start s mode)
 
--- So it is of the first runs that are told with the outcomes of a script, though other runs are not told.
+-- So it is of the first runs that are told with the outcomes of a script, though other runs are not
+-- told.
 abbrev pub OutcomesTellAllEnds : Type 0
 OutcomesTellAllEnds =
     (s : Program) (mode : Mode) (fuel : ℕ) (o : Outcomes) → TellsRuns fuel (start s mode) o → TellsAll true s mode (tally_of o.firsts.leaves.items o.firsts.more)
@@ -72,7 +75,8 @@ AllEndBadly u =
     (steps : List Step) (w : World) → fold u steps ≡ Some w → enabled w ≡ []
     → (way_of (Ended (ending w)) ≡ Deadlock) ⊎ (way_of (Ended (ending w)) ≡ Trap)
 
--- Where the numbers of a diagnosis say that every run hangs or traps, it does, and where they say which of both.
+-- Where the numbers of a diagnosis say that every run hangs or traps, it does, and where they say
+-- which of both.
 abbrev pub FailingDiagnosesAreOfAllRuns : Type 0
 FailingDiagnosesAreOfAllRuns =
     (limits : StateLimits) (most runs : ℕ) (s : Program) (mode : Mode) (told : Diagnosis)
@@ -80,7 +84,8 @@ FailingDiagnosesAreOfAllRuns =
     → AllEndBadly (start s mode) × BoundsAllRuns limits.fuel (start s mode)
     × (always_hangs told.found.counts ≡ true → AllEndIn Deadlock (start s mode)) × (always_traps told.found.counts ≡ true → AllEndIn Trap (start s mode))
 
--- After the step that decided how a run ends, each run ends badly, and so it does from the start where no step decided it.
+-- After the step that decided how a run ends, each run ends badly, and so it does from the start
+-- where no step decided it.
 abbrev pub BlamesAreOfAllRuns : Type 0
 BlamesAreOfAllRuns =
     (s : Program) (mode : Mode) (most limit : ℕ) (steps : List Step)
@@ -88,8 +93,8 @@ BlamesAreOfAllRuns =
     → (n : ℕ) (u : World) → d.depth < n → n ≤ length steps → fold (start s mode) (take n steps) ≡ Some u → AllEndBadly u × BoundsAllRuns (limit - n) u)
     × (IsBlame most limit (start s mode) steps FromStart → AllEndBadly (start s mode) × BoundsAllRuns limit (start s mode))
 
--- And of the runs that the console looks at from where it stands, where it says that there is no deadlock or trap from there: by states, or
--- one by one.
+-- And of the runs that the console looks at from where it stands, where it says that there is no
+-- deadlock or trap from there: by states, or one by one.
 abbrev pub ConsolesSeeAllEnds : Type 0
 ConsolesSeeAllEnds =
     (k : Scope) (d : Standing) → IsReached d → sees_all (counts_in k (fuel_at d.trail.depth) d.world) ≡ true

@@ -1,4 +1,5 @@
--- Worked rows of scripts with a waitany, of which a walk that is nowhere cut leaves out ends, or has one twice.
+-- Worked rows of scripts with a waitany, of which a walk that is nowhere cut leaves out ends, or
+-- has one twice.
 use Rattle.std.specs.Prelude.{◌≡◌, ℕ, ◌+◌, pos, true, map, List, [], ◌∷◌, ◌++◌, replicate, Some, None, is_some, codes, refl}
 use Rattle.std.specs.Option.{option_map}
 use Rattle.std.proofs.Common.{arith}
@@ -47,7 +48,8 @@ request k = record { place = requests; index = Some (n k) }
 abbrev waitany : Tree
 waitany = simple (st.Waitany (record { requests = requests; into = whole i }))
 
--- var x; var i; req r[2]; isend r[0] 7 to 0 tag 0; irecv r[1] x from any tag any; waitany r to i; and then these statements
+-- var x; var i; req r[2]; isend r[0] 7 to 0 tag 0; irecv r[1] x from any tag any; waitany r to i;
+-- and then these statements
 abbrev of_two : List Tree → Program
 of_two behind = record {
   version = 2;
@@ -60,7 +62,8 @@ of_two behind = record {
   lines = replicate (3 + statements_in (block_of behind)) 2;
 }
 
--- where the send is buffered it is complete at once, and the walk goes on by it before it takes the match
+-- where the send is buffered it is complete at once, and the walk goes on by it before it takes the
+-- match
 abbrev matched_first : List Step
 matched_first = Local 0 ∷ Local 0 ∷ Local 0 ∷ Match (call_id 0 0) (call_id 0 1) ∷ WakeAny 0 1 ∷ []
 

@@ -1,5 +1,6 @@
--- What a quiet step does beside others, and what a wide walk that is nowhere cut says of all runs: of any script, in any mode. Where a
--- script has no waitany and buffers never run out, it is the walk.
+-- What a quiet step does beside others, and what a wide walk that is nowhere cut says of all runs:
+-- of any script, in any mode. Where a script has no waitany and buffers never run out, it is the
+-- walk.
 use Rattle.std.specs.Prelude.{◌≡◌, ◌≤◌, ◌⊎◌, ℕ, suc, true, false, List, [], length, Some, IsSome}
 use Rattle.std.specs.List.{Contains}
 use Rattle.mpd_model.specs.declared.step.Step.{Step}
@@ -17,7 +18,8 @@ use Rattle.mpd_complete.specs.WideWalks.{awake_wide_walk}
 
 -- ---- a quiet step
 
--- It conflicts with no other step that is enabled, and after that step it is enabled and quiet as before.
+-- It conflicts with no other step that is enabled, and after that step it is enabled and quiet as
+-- before.
 pub record StaysQuiet (w v : World) (a b : Step) : Type 0 where
   pub apart : conflict w a b ≡ false
   pub on : IsSome (next v a)
@@ -29,8 +31,8 @@ QuietStepsStay =
     (s : Program) (mode : Mode) (before : List Step) (w : World) → fold (start s mode) before ≡ Some w
     → (a b : Step) (u v : World) → next w a ≡ Some u → is_quiet w a ≡ true → next w b ≡ Some v → (a ≡ b) ⊎ StaysQuiet w v a b
 
--- Steps lead to v, and a can be taken in their place and leads to u: the others of them lead from u to v as well, or all of them lead from u
--- to where a leads from v.
+-- Steps lead to v, and a can be taken in their place and leads to u: the others of them lead from u
+-- to v as well, or all of them lead from u to where a leads from v.
 pub record ComesFirst (a : Step) (steps : List Step) (u v : World) : Type 0 where
   pub rest : List Step
   pub end : World
@@ -84,7 +86,8 @@ abbrev pub WideWalksAreWalks : Type 0
 WideWalksAreWalks =
     (s : Program) → HasNoWaitany s → (mode : Mode) → KeepsBuffers mode → (before : List Step) (u : World) → fold (start s mode) before ≡ Some u → (fuel : ℕ) → wide_walk fuel u ≡ walk fuel u
 
--- So it is where what was tried falls asleep: a match that conflicts with one that was taken is never enabled again, so it need not wake.
+-- So it is where what was tried falls asleep: a match that conflicts with one that was taken is
+-- never enabled again, so it need not wake.
 abbrev pub SleepingWideWalksAreSleepingWalks : Type 0
 SleepingWideWalksAreSleepingWalks =
     (s : Program) → HasNoWaitany s → (mode : Mode) → KeepsBuffers mode → (before : List Step) (u : World) → fold (start s mode) before ≡ Some u

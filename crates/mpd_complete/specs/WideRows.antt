@@ -1,5 +1,5 @@
--- Worked rows of wide walks: they have the ends that the walk leaves out, where a match gives back a slot or a waitany takes what is complete.
--- What is wanted was worked out by hand.
+-- Worked rows of wide walks: they have the ends that the walk leaves out, where a match gives back
+-- a slot or a waitany takes what is complete. What is wanted was worked out by hand.
 use Rattle.std.specs.Prelude.{◌≡◌, ℕ, Bool, true, false, map, List, [], ◌∷◌, refl}
 use Rattle.mpd_model.specs.declared.step.Step.{Step}
 use Rattle.mpd_model.specs.declared.step.Step.TheVariants.{Local, Match, Wake, WakeAny, Release}
@@ -28,7 +28,8 @@ ended runs = map (λ r. (r.choices, r.ending)) runs
 
 -- ---- a send that takes the slot that a match gives back
 
--- with one slot it matters which is first, the second send or the match of the first one: each has its end
+-- with one slot it matters which is first, the second send or the match of the first one: each has
+-- its end
 abbrev both_ends : List (List ℕ × Ending)
 both_ends = (0 ∷ 0 ∷ [], Ended (o.Deadlock (issued_by 3 (call_id 0 2) ∷ []))) ∷ (1 ∷ [], Ended (o.Leftovers (issued_by 2 (call_id 0 1) ∷ []))) ∷ []
 
@@ -41,7 +42,8 @@ pub row_one_slot_asleep : ended (sleeping_wide_walk 9 (start ending_there (Slots
 unfolding awake_by wide_decision
 row_one_slot_asleep = refl
 
--- in the other modes, with no slot and with two, nothing is to be chosen but, with two slots, the match of a buffered send
+-- in the other modes, with no slot and with two, nothing is to be chosen but, with two slots, the
+-- match of a buffered send
 pub row_other_modes : map {B = List (List ℕ × Ending)} (λ (mode : Mode). ended (wide_walk 9 (start ending_there mode))) (Rendezvous ∷ Buffered ∷ Slots 0 ∷ Slots 2 ∷ [])
     ≡ (([], Ended (o.Deadlock (issued_by 3 (call_id 0 2) ∷ []))) ∷ []) ∷ (([], Ended (o.Leftovers (issued_by 2 (call_id 0 1) ∷ []))) ∷ []) ∷ (([], Ended (o.Deadlock (issued_by 3 (call_id 0 2) ∷ []))) ∷ []) ∷ ((0 ∷ [], Ended (o.Leftovers (issued_by 2 (call_id 0 1) ∷ []))) ∷ []) ∷ []
 unfolding wide_walk wide_decision

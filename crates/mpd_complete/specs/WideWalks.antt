@@ -1,6 +1,7 @@
--- Wide walks in which steps may be asleep: two steps that do not conflict are taken in one order alone. A candidate that was tried is asleep
--- below the later ones, until a step is taken that conflicts with it, and isn't taken as long as it is asleep. `awake_wide_walk` has a
--- switch: with `true` what was tried falls asleep, with `false` nothing does.
+-- Wide walks in which steps may be asleep: two steps that do not conflict are taken in one order
+-- alone. A candidate that was tried is asleep below the later ones, until a step is taken that
+-- conflicts with it, and isn't taken as long as it is asleep. `awake_wide_walk` has a switch: with
+-- `true` what was tried falls asleep, with `false` nothing does.
 use Rattle.std.specs.Prelude.{ℕ, Bool, List}
 use Rattle.mpd_model.specs.declared.step.Step.{Step}
 use Rattle.mpd_model.specs.declared.decision.Decision.{Decision}

@@ -62,7 +62,8 @@ DrawnIf true limits most runs d (Some r) = AreDrawn limits.fuel runs d.world r.o
 
 -- ---- the whole
 
--- What is known of the runs from where a debugger stands that the limits let be come to; and of others, so many of which are drawn.
+-- What is known of the runs from where a debugger stands that the limits let be come to; and of
+-- others, so many of which are drawn.
 pub record IsDiagnosis (limits : StateLimits) (most runs : ℕ) (d : Standing) (x : Diagnosis) : Type 0 where
   pub told : AreTold limits d.world x.found.outcomes
   pub found : AreRuns limits most d x.found

@@ -26,8 +26,9 @@ end k lines steps = record { cause = record { kind = k; lines = lines }; steps =
 pub row_shortest : shortest (end kind.Trap [] 7 ∷ end kind.Trap [] 5 ∷ end kind.Trap [] 5 ∷ end kind.Trap [] 6 ∷ []) 0 (0 ∷ 1 ∷ 2 ∷ 3 ∷ []) ≡ 1
 row_shortest = refl
 
--- a deadlock at lines 4 and 8, a run that is done, a trap at line 4, the same deadlock, and one at line 4 alone: those that are alike are
--- told together, of 3 + 4 runs, and the last of them has the fewest steps
+-- a deadlock at lines 4 and 8, a run that is done, a trap at line 4, the same deadlock, and one at
+-- line 4 alone: those that are alike are told together, of 3 + 4 runs, and the last of them has the
+-- fewest steps
 abbrev five : List LeafEnd
 five = end kind.Deadlock (4 ∷ 8 ∷ []) 8 ∷ end kind.Done [] 1 ∷ end kind.Trap (4 ∷ []) 6 ∷ end kind.Deadlock (4 ∷ 8 ∷ []) 7 ∷ end kind.Deadlock (4 ∷ []) 9 ∷ []
 
@@ -46,7 +47,8 @@ narrow = record { first = 4; count = Exactly 5; shown = 4 }
 pub row_groups : groups five (Exactly 3 ∷ Exactly 2 ∷ Exactly 1 ∷ Exactly 4 ∷ Exactly 5 ∷ []) ≡ wide ∷ trap ∷ narrow ∷ []
 row_groups = refl
 
--- the deadlock that stands at the lines of another, and at more, comes last; the trap stands at a line of it, and is of another kind
+-- the deadlock that stands at the lines of another, and at more, comes last; the trap stands at a
+-- line of it, and is of another kind
 pub row_order : groups_of five (Exactly 3 ∷ Exactly 2 ∷ Exactly 1 ∷ Exactly 4 ∷ Exactly 5 ∷ []) ≡ trap ∷ narrow ∷ wide ∷ []
 row_order = refl
 

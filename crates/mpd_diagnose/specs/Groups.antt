@@ -104,11 +104,13 @@ abbrev pub is_so : Bool → Bool → Bool
 is_so true b = b
 is_so false b = not b
 
--- whether they are deadlocks or traps or neither, and whether they stand at all lines of others and at more or not
+-- whether they are deadlocks or traps or neither, and whether they stand at all lines of others and
+-- at more or not
 abbrev pub is_of : Bool → Bool → List LeafEnd → List Group → Group → Bool
 is_of bad wide ends gs g = is_so bad (is_bad_at ends g) && is_so wide (is_wide ends gs g)
 
--- deadlocks and traps, and then others; of each those that stand at all lines of others and at more come last
+-- deadlocks and traps, and then others; of each those that stand at all lines of others and at more
+-- come last
 abbrev pub bad_first : List LeafEnd → List Group → List Group
 bad_first ends gs = filter (is_of true false ends gs) gs ++ filter (is_of true true ends gs) gs ++ filter (is_of false false ends gs) gs ++ filter (is_of false true ends gs) gs
 

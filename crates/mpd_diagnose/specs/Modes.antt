@@ -1,4 +1,5 @@
--- Modes that are diagnosed in turn, and what their verdicts come to; so do those of several numbers of ranks.
+-- Modes that are diagnosed in turn, and what their verdicts come to; so do those of several numbers
+-- of ranks.
 use Rattle.std.specs.Prelude.{ℕ, ◌+◌, Bool, true, false, is_some, if◌then◌else◌, List, [], ◌∷◌, ◌++◌, length, map, Option, Some, None, slice_index_or}
 use Rattle.std.specs.List.{flat_map, range_with_len}
 use Rattle.mpd_model.specs.declared.call.Mode.{Mode}
@@ -51,7 +52,8 @@ mode_if modes flags n = if slice_index_or flags n false then slice_index_or mode
 abbrev pub chosen : List Mode → List Bool → List Mode
 chosen modes flags = flat_map (mode_if modes flags) (range_with_len 0 (length modes))
 
--- the modes that something is told of: those whose verdict is what all come to, and where that is good those where calls can be left over
+-- the modes that something is told of: those whose verdict is what all come to, and where that is
+-- good those where calls can be left over
 abbrev pub noticed : Verdict → List Mode → List Verdict → List Bool → List Mode
 noticed Good modes vs left = chosen modes left
 noticed Bad modes vs left = chosen modes (which Bad vs)

@@ -40,7 +40,8 @@ draws c = c.more && ends_well c
 abbrev pub tries_modes : WayCounts → Bool
 tries_modes c = never_fails c || always_fails c
 
--- A run of at most so many steps is drawn: no step shows more than 17 glyphs, and 20,000 can be drawn.
+-- A run of at most so many steps is drawn: no step shows more than 17 glyphs, and 20,000 can be
+-- drawn.
 abbrev pub is_drawn : ℕ → Bool
 is_drawn steps = nat_le steps PICTURED_STEPS
 

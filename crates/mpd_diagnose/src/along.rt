@@ -28,8 +28,8 @@ pub struct LeafEnd {
     pub end: End,
 }
 
-/// Goes along the run with these choices to its end, and answers how many steps it has. The debugger is left anywhere beyond where it
-/// stood.
+/// Goes along the run with these choices to its end, and answers how many steps it has. The
+/// debugger is left anywhere beyond where it stood.
 fn go_along(
     alloc: Global,
     debugger: &mut Debugger<'_>,

@@ -1,4 +1,5 @@
-//! What a diagnosis comes to, in a line for a number of ranks or a mode (docs/FORMATS.md, "Several numbers of ranks", "Several modes").
+//! What a diagnosis comes to, in a line for a number of ranks or a mode (docs/FORMATS.md, "Several
+//! numbers of ranks", "Several modes").
 
 use crate::diagnosis::Diagnosis;
 use crate::told::{push_in_mode, push_number, push_runs};
@@ -84,7 +85,8 @@ fn push_drawn(out: &mut String, drawn: Option<WayCounts>) -> Result<(), AllocErr
     }
 }
 
-/// What a diagnosis comes to, with what it is told of before it, and where that is said again after how many runs there are.
+/// What a diagnosis comes to, with what it is told of before it, and where that is said again after
+/// how many runs there are.
 fn brief_text(
     alloc: Global,
     head: &str,
@@ -123,8 +125,9 @@ fn brief_line(
     Ok(out)
 }
 
-/// A line of what a diagnosis comes to, for a number of ranks and in a mode: how many runs there are, and how many of them hang, trap, end
-/// with calls left over and are cut. A long one goes on in further lines. An `Err` is want of memory.
+/// A line of what a diagnosis comes to, for a number of ranks and in a mode: how many runs there
+/// are, and how many of them hang, trap, end with calls left over and are cut. A long one goes on
+/// in further lines. An `Err` is want of memory.
 pub fn ranks_line(
     alloc: Global,
     ranks: usize,

@@ -133,8 +133,8 @@ impl EndKind {
 #[derive(Drop)]
 pub struct Cause {
     pub kind: EndKind,
-    /// The lines where its calls were issued, or its trapped ranks stand, or, if it is cut, all ranks
-    /// that haven't ended; none of a run that is done.
+    /// The lines where its calls were issued, or its trapped ranks stand, or, if it is cut, all
+    /// ranks that haven't ended; none of a run that is done.
     pub lines: LineList,
 }
 
@@ -226,7 +226,8 @@ impl Cause {
         same_kind(self.kind, other.kind) && (are_among(one, two) && are_among(two, one))
     }
 
-    /// Whether two ends are of one kind, and this one stands at all lines of the other, and at more.
+    /// Whether two ends are of one kind, and this one stands at all lines of the other, and at
+    /// more.
     pub fn exceeds(&self, other: &Cause) -> bool
         ensures { result ≡ spec.exceeds self.now other.now }
     {

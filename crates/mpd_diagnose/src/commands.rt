@@ -34,7 +34,8 @@ fn push_strict(out: &mut Vec<u8>, strict: bool) -> Result<(), AllocError> {
     }
 }
 
-/// The command that diagnoses the script of a file in a mode, for so many ranks where that is asked for, `strict` or not.
+/// The command that diagnoses the script of a file in a mode, for so many ranks where that is asked
+/// for, `strict` or not.
 pub fn full_command(
     alloc: Global,
     file: &str,
@@ -66,7 +67,8 @@ fn choices_words(alloc: Global, choices: &[usize]) -> Result<String, AllocError>
     Ok(out)
 }
 
-/// Adds a command that names a run by its choices, with these words before the script and after the choices.
+/// Adds a command that names a run by its choices, with these words before the script and after the
+/// choices.
 fn push_command(
     alloc: Global,
     out: &mut Vec<u8>,
@@ -165,7 +167,8 @@ pub(crate) fn push_run(
     Ok(())
 }
 
-/// The file that a picture is written to: what its kind is called, and its number where there are several.
+/// The file that a picture is written to: what its kind is called, and its number where there are
+/// several.
 pub(crate) fn picture_file(
     alloc: Global,
     kind: &str,

@@ -28,7 +28,8 @@ pub struct DiagnosisPlan {
     pub limits: StateLimits,
     /// How many states the search for the step that decided one end comes to at most.
     pub blamed: usize,
-    /// How many runs are drawn, if there are more than were come to, and none of these hangs or traps.
+    /// How many runs are drawn, if there are more than were come to, and none of these hangs or
+    /// traps.
     pub drawn: usize,
 }
 
@@ -43,8 +44,8 @@ pub struct Runs {
     pub ends: Vec<LeafEnd>,
     /// These ends, those together that are of one kind and stand at the same lines.
     pub groups: Vec<Group>,
-    /// For each group, where it was decided how the run ends that is shown, if that is a deadlock or
-    /// a trap.
+    /// For each group, where it was decided how the run ends that is shown, if that is a deadlock
+    /// or a trap.
     pub blames: Vec<Option<PlacedBlame>>,
 }
 
@@ -67,8 +68,8 @@ fn blaming(limits: StateLimits, most: usize) -> StateLimits
     }
 }
 
-/// Where it was decided how the run of the leaf of a number ends, if there is such a leaf, and it is
-/// a deadlock or a trap. The debugger is left as found.
+/// Where it was decided how the run of the leaf of a number ends, if there is such a leaf, and it
+/// is a deadlock or a trap. The debugger is left as found.
 fn blame_at(
     alloc: Global,
     debugger: &mut Debugger<'_>,
@@ -217,8 +218,8 @@ fn diagnose_there(
 
 /// Whether the runs of a script in a mode can hang or trap, how, and where that was decided
 /// (docs/FORMATS.md, "Diagnosis"), as far as the limits let its states be come to; and the same of
-/// runs that are drawn, if there are more, and none of these hangs or traps. `Err` means that memory
-/// was refused. The fuel is at most 1,000,000 steps.
+/// runs that are drawn, if there are more, and none of these hangs or traps. `Err` means that
+/// memory was refused. The fuel is at most 1,000,000 steps.
 pub fn diagnose(
     alloc: Global,
     subject: Subject<'_>,

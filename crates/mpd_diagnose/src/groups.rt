@@ -212,8 +212,8 @@ fn is_wide(ends: &[LeafEnd], groups: &[Group], group: Group) -> bool
     groups.iter().any(|other| exceeds(ends, group, *other))
 }
 
-/// Which groups are meant: deadlocks and traps or others, and of these those that stand at all lines
-/// of others and at more, or those that don't.
+/// Which groups are meant: deadlocks and traps or others, and of these those that stand at all
+/// lines of others and at more, or those that don't.
 #[derive(Clone, Copy)]
 struct Part {
     bad: bool,

@@ -1,4 +1,5 @@
-//! Whether the runs of a script can hang or trap, how, and where that was decided (docs/FORMATS.md, "Diagnosis").
+//! Whether the runs of a script can hang or trap, how, and where that was decided (docs/FORMATS.md,
+//! "Diagnosis").
 #![tactic(auto)]
 
 pub mod along;

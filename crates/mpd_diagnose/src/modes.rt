@@ -1,4 +1,5 @@
-//! Modes that are diagnosed in turn, and what their verdicts come to (docs/FORMATS.md, "Several modes").
+//! Modes that are diagnosed in turn, and what their verdicts come to (docs/FORMATS.md, "Several
+//! modes").
 
 ghost use Rattle.std.specs.Prelude.{◌≡◌, ◌++◌, ◌∷◌, [], IfOk, OnOk};
 ghost use Rattle.mpd_diagnose.specs.Modes as spec;
@@ -9,7 +10,8 @@ use mpd_lines::{Verdict, push_folded};
 use mpd_model::Mode;
 use std::alloc::{AllocError, Global};
 
-/// The modes that are tried up to so many slots: rendezvous, `slots:1` and more, and buffered. An `Err` is want of memory.
+/// The modes that are tried up to so many slots: rendezvous, `slots:1` and more, and buffered. An
+/// `Err` is want of memory.
 pub fn modes_up_to(alloc: Global, most: usize) -> Result<Vec<Mode>, AllocError>
     ensures { IfOk result (λ modes. modes.items ≡ spec.modes_up_to most) }
 {
@@ -127,7 +129,8 @@ fn chosen_by(
     chosen(alloc, modes, &flags)
 }
 
-/// The modes that something is told of: those whose verdict is the worst, and where that is good those where calls can be left over.
+/// The modes that something is told of: those whose verdict is the worst, and where that is good
+/// those where calls can be left over.
 fn noticed(
     alloc: Global,
     worst: Verdict,
@@ -224,7 +227,8 @@ fn first_command(
     }
 }
 
-/// What is told after the lines of modes, of those that something is told of, by what all verdicts come to.
+/// What is told after the lines of modes, of those that something is told of, by what all verdicts
+/// come to.
 fn closing_by(
     alloc: Global,
     script: ScriptInModes<'_>,
@@ -240,9 +244,10 @@ fn closing_by(
     Ok(out)
 }
 
-/// What is told after the lines of modes, by their verdicts, and by whether calls can be left over in each: what they come to, with the
-/// modes of which that is so, and the command that diagnoses the first of these. Where all are good these are the modes where calls can be
-/// left over. An `Err` is want of memory.
+/// What is told after the lines of modes, by their verdicts, and by whether calls can be left over
+/// in each: what they come to, with the modes of which that is so, and the command that diagnoses
+/// the first of these. Where all are good these are the modes where calls can be left over. An
+/// `Err` is want of memory.
 pub fn closing_of(
     alloc: Global,
     script: ScriptInModes<'_>,

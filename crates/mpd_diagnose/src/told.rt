@@ -47,7 +47,8 @@ fn push_first_if(out: &mut String, more: bool) -> Result<(), AllocError> {
     }
 }
 
-/// Adds how many runs were looked at, and that they are the first if there are more. Of one run that isn't said.
+/// Adds how many runs were looked at, and that they are the first if there are more. Of one run
+/// that isn't said.
 fn push_those(out: &mut String, total: Count, more: bool) -> Result<(), AllocError> {
     match total {
         Count::Exactly(number) => {
@@ -273,7 +274,8 @@ fn push_bad(out: &mut String, mode: Mode, counts: WayCounts) -> Result<(), Alloc
     }
 }
 
-/// What becomes of the runs in a mode, which have so many steps at most, as was found by coming to so many states.
+/// What becomes of the runs in a mode, which have so many steps at most, as was found by coming to
+/// so many states.
 fn verdict_text(
     alloc: Global,
     mode: Mode,
@@ -377,7 +379,8 @@ fn picture_of(
     })
 }
 
-/// Adds a text with the places of marks of the script beside lines. A long line goes on in further lines.
+/// Adds a text with the places of marks of the script beside lines. A long line goes on in further
+/// lines.
 fn push_folded_marked(
     alloc: Global,
     out: &mut Vec<u8>,
@@ -389,7 +392,8 @@ fn push_folded_marked(
     push_folded(out, &text)
 }
 
-/// Adds what is told of ends together, and the commands that go to one of them, of which this is the picture.
+/// Adds what is told of ends together, and the commands that go to one of them, of which this is
+/// the picture.
 fn push_group(
     alloc: Global,
     out: &mut Vec<u8>,
@@ -443,8 +447,8 @@ fn push_groups(
     Ok(())
 }
 
-/// The command that is tried next: one that tries other runs, where there are more and none are drawn; or other modes, where no run of this
-/// one hangs or traps, or every run does.
+/// The command that is tried next: one that tries other runs, where there are more and none are
+/// drawn; or other modes, where no run of this one hangs or traps, or every run does.
 fn next_command(alloc: Global, named: Named<'_>, counts: WayCounts) -> Result<Vec<u8>, AllocError> {
     if tries_modes(counts) {
         return modes_command(alloc, named);
@@ -452,8 +456,8 @@ fn next_command(alloc: Global, named: Named<'_>, counts: WayCounts) -> Result<Ve
     others_command(alloc, counts.more && !ends_well(counts), named)
 }
 
-/// Adds what becomes of the runs in a mode that a diagnosis was come to, which have so many steps at
-/// most; long lines go on in further lines. `Err` means that memory was refused.
+/// Adds what becomes of the runs in a mode that a diagnosis was come to, which have so many steps
+/// at most; long lines go on in further lines. `Err` means that memory was refused.
 pub fn push_verdict(
     alloc: Global,
     out: &mut Vec<u8>,
@@ -467,8 +471,8 @@ pub fn push_verdict(
     push_folded(out, verdict.as_bytes())
 }
 
-/// Adds what becomes of the runs, which have so many steps at most, as was found by coming to so many states; and the command that is tried
-/// next.
+/// Adds what becomes of the runs, which have so many steps at most, as was found by coming to so
+/// many states; and the command that is tried next.
 fn push_opening(
     alloc: Global,
     out: &mut Vec<u8>,
@@ -532,7 +536,8 @@ fn drawn_verdict(alloc: Global, counts: WayCounts) -> Result<String, AllocError>
     Ok(out)
 }
 
-/// What becomes of the runs that were drawn, after an empty line; and the command that tries others, where none of them hangs or traps.
+/// What becomes of the runs that were drawn, after an empty line; and the command that tries
+/// others, where none of them hangs or traps.
 fn drawn_opening(
     alloc: Global,
     named: Named<'_>,
@@ -547,9 +552,9 @@ fn drawn_opening(
     Ok(out)
 }
 
-/// The text of a diagnosis of a script in a mode, whose runs have so many steps at most: what becomes
-/// of its runs, their ends and the commands that show them; and the same of runs that were drawn.
-/// Long lines go on in further lines. `Err` means that memory was refused.
+/// The text of a diagnosis of a script in a mode, whose runs have so many steps at most: what
+/// becomes of its runs, their ends and the commands that show them; and the same of runs that were
+/// drawn. Long lines go on in further lines. `Err` means that memory was refused.
 pub fn diagnosis_text(
     alloc: Global,
     named: Named<'_>,

@@ -7,7 +7,8 @@ use crate::diagnosis::Diagnosis;
 use mpd_lines::Verdict;
 use mpd_runs::{WayCounts, is_count, sees_all};
 
-/// How many steps a run has at most that is drawn: no step shows more than 17 glyphs, and 20,000 can be drawn (docs/PICTURES.md).
+/// How many steps a run has at most that is drawn: no step shows more than 17 glyphs, and 20,000
+/// can be drawn (docs/PICTURES.md).
 const PICTURED_STEPS: usize = 1_000;
 
 /// Whether no run hangs or traps.
@@ -131,8 +132,9 @@ pub fn drawn_counts(diagnosis: &Diagnosis) -> Option<WayCounts>
     }
 }
 
-/// The verdict on a script that is diagnosed: bad where a run hangs or traps, one that was drawn among them, or where one ends
-/// with calls left over and `strict` says that this is asked for; else not whole where there are more runs, or one is cut; else good.
+/// The verdict on a script that is diagnosed: bad where a run hangs or traps, one that was drawn
+/// among them, or where one ends with calls left over and `strict` says that this is asked for;
+/// else not whole where there are more runs, or one is cut; else good.
 pub fn verdict_of(diagnosis: &Diagnosis, strict: bool) -> Verdict
     ensures { result ≡ spec.verdict_of strict diagnosis.now.found.counts (spec.drawn_counts diagnosis.now.drawn) }
 {

@@ -3,8 +3,8 @@
 use mpd_model::{Decl, Mode};
 use std::alloc::{AllocError, Global};
 
-/// A script as it is told: its text, whose marks stand beside lines, and as words name it, its file, how many ranks it has where that is
-/// asked for, and the mode that it runs in.
+/// A script as it is told: its text, whose marks stand beside lines, and as words name it, its
+/// file, how many ranks it has where that is asked for, and the mode that it runs in.
 #[derive(Clone, Copy)]
 pub struct Named<'a> {
     /// The text of the script, whose marks name places of a program (docs/FROM_A_RUN.md, "Marks").

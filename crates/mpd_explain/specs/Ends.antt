@@ -64,7 +64,8 @@ wait_of s w c = wait_by s w c (map (awaited_of w) (awaited_ranks w c))
 abbrev pub deadlock_of : Program → World → List CallId → End
 deadlock_of s w blocked = the_end.Deadlock (map (wait_of s w) blocked) (cycles w) (left_beside s w.board (awaited w blocked))
 
--- a rank that is trapped has the statement that trapped it still before it, and holds what it held then
+-- a rank that is trapped has the statement that trapped it still before it, and holds what it held
+-- then
 abbrev pub trap_of : Program → World → TrappedRank → TrapPlace
 trap_of s w t = record {
   rank = t.rank;

@@ -94,8 +94,8 @@ pub row_crossed : map {B = End} (λ (r : Run). end_after crossed Rendezvous r.st
 unfolding walk decision
 row_crossed = refl
 
--- a send of another tag than the one that is waited for: of both calls the other is the nearest miss
--- if rank == 0 { recv x from 1 tag 2; } else { send 5 to 0 tag 1; }
+-- a send of another tag than the one that is waited for: of both calls the other is the nearest
+-- miss if rank == 0 { recv x from 1 tag 2; } else { send 5 to 0 tag 1; }
 abbrev missed : Program
 missed = record {
   version = 1;
@@ -157,8 +157,8 @@ pub row_divided_by : map {B = End} (λ (r : Run). end_after divided_by Rendezvou
 unfolding walk decision
 row_divided_by = refl
 
--- two messages that nobody receives: with buffers they are left over, and else the first one blocks its rank
--- if rank == 0 { send 5 to 1 tag 1; send 6 to 1 tag 2; } else { print 1; }
+-- two messages that nobody receives: with buffers they are left over, and else the first one blocks
+-- its rank if rank == 0 { send 5 to 1 tag 1; send 6 to 1 tag 2; } else { print 1; }
 abbrev unread : Program
 unread = record {
   version = 1;
@@ -172,8 +172,9 @@ pub row_unread : map {B = End} (λ (r : Run). end_after unread Buffered r.steps 
 unfolding walk decision
 row_unread = refl
 
--- rank 0 waits for its second request; its first, and a message of rank 1 that nobody receives, are left over
--- if rank == 0 { irecv r[0] x from 1 tag 8; irecv r[1] x from 1 tag 9; wait r[1]; } else { isend r[0] 5 to 0 tag 3; }
+-- rank 0 waits for its second request; its first, and a message of rank 1 that nobody receives, are
+-- left over if rank == 0 { irecv r[0] x from 1 tag 8; irecv r[1] x from 1 tag 9; wait r[1]; } else
+-- { isend r[0] 5 to 0 tag 3; }
 abbrev two_requests : List Declared
 two_requests = record { kind = Variable; name = codes "x"; size = None } ∷ record { kind = Handle; name = codes "r"; size = Some 2 } ∷ []
 

@@ -1,4 +1,5 @@
--- The ends of the leaves of a report. What comes next in a state is told by a function, as in the walk that listed them.
+-- The ends of the leaves of a report. What comes next in a state is told by a function, as in the
+-- walk that listed them.
 use Rattle.std.specs.Prelude.{ℕ, List, [], ◌++◌, map, Option, Some, None}
 use Rattle.mpd_model.specs.declared.step.Step.{Step}
 use Rattle.mpd_model.specs.declared.decision.Decision.{Decision}

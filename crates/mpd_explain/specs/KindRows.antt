@@ -12,8 +12,8 @@ use Rattle.mpd_explain.specs.Requests.{requests}
 use Rattle.mpd_explain.specs.Missed.{missing, nearest_of, is_at_once}
 use Rattle.mpd_explain.specs.Waits.{is_partner}
 
--- a send to rank 1, a synchronous one to rank 2, a receive from rank 1, one of any source, a wait, a waitany, a barrier, and where
--- there is no call
+-- a send to rank 1, a synchronous one to rank 2, a receive from rank 1, one of any source, a wait,
+-- a waitany, a barrier, and where there is no call
 abbrev calls : List (Option CallKind)
 calls =
     Some (Send (record { to = 1; tag = 2; value = pos 3; synchronous = false; blocks = true; buffered = false }))
@@ -32,7 +32,8 @@ here = record {
 pub row_requests : map {B = List CallId} (requests here 0) calls ≡ [] ∷ [] ∷ [] ∷ [] ∷ (call_id 0 5 ∷ []) ∷ (call_id 0 4 ∷ call_id 0 7 ∷ []) ∷ [] ∷ [] ∷ []
 row_requests = refl
 
--- each with a receive of rank 1 that names rank 2, as a send of rank 0; and a send of rank 1 with each, as a receive of rank 3
+-- each with a receive of rank 1 that names rank 2, as a send of rank 0; and a send of rank 1 with
+-- each, as a receive of rank 3
 abbrev first_send : Option CallKind
 first_send = Some (Send (record { to = 1; tag = 2; value = pos 3; synchronous = false; blocks = true; buffered = false }))
 
@@ -48,7 +49,8 @@ row_missed = refl
 pub row_tag : missing (Some (Send (record { to = 1; tag = 5; value = pos 3; synchronous = false; blocks = true; buffered = false }))) from_two 2 1 ≡ Some Tag
 row_tag = refl
 
--- two that differ in the source, and between these one that differs in the destination; and then one that differs in the tag
+-- two that differ in the source, and between these one that differs in the destination; and then
+-- one that differs in the tag
 abbrev some : List (CallId × Miss)
 some = (call_id 0 0, Source) ∷ (call_id 0 1, Destination) ∷ (call_id 1 0, Source) ∷ []
 

@@ -48,7 +48,8 @@ abbrev pub is_send : Option CallKind → Bool
 is_send (Some (Send s)) = true
 is_send kind = false
 
--- It is neither. Nothing is left to wait for of a send that is complete; and one that is complete may have been what a waitany went on by.
+-- It is neither. Nothing is left to wait for of a send that is complete; and one that is complete
+-- may have been what a waitany went on by.
 abbrev pub is_lost : World → CallId → Bool
 is_lost w c = is_request (kind_at w.board c) && (not (is_kept w c) && not ((is_send (kind_at w.board c) || has_waitany (calls_of w.board c.rank)) && complete w.board c))
 

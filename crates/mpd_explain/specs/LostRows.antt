@@ -36,8 +36,8 @@ waitany = on.Waitany (record { first = 0; count = 1; cell = 0; active = true })
 abbrev rank : List (Option ℕ) → RankWorld
 rank handles = record { rest = []; vars = []; handles = handles; out = []; activity = Running }
 
--- Of rank 0 a handle holds call 0, call 2 blocked, call 4 is a wait for call 3, and call 5 is complete. Rank 1 has issued a waitany, and
--- its call 0 is complete.
+-- Of rank 0 a handle holds call 0, call 2 blocked, call 4 is a wait for call 3, and call 5 is
+-- complete. Rank 1 has issued a waitany, and its call 0 is complete.
 abbrev here : World
 here = record {
   ranks = rank (Some 0 ∷ None ∷ []) ∷ rank (None ∷ []) ∷ [];

@@ -63,8 +63,8 @@ first_miss m ms = first_in (filter (λ e. same_miss m e.1) ms)
 abbrev pub by_order : Miss → Miss → List (CallId × Miss) → Option (CallId × Miss)
 by_order m n ms = or_else (first_miss Tag ms) (or_else (first_miss m ms) (first_miss n ms))
 
--- calls of the rank that is waited for come before those of others: of that rank are, for a receive, the sends of another destination,
--- and for a send the receives of another source
+-- calls of the rank that is waited for come before those of others: of that rank are, for a
+-- receive, the sends of another destination, and for a send the receives of another source
 abbrev pub nearest_of : Option CallKind → List (CallId × Miss) → Option (CallId × Miss)
 nearest_of (Some (Recv r)) ms = by_order Destination Source ms
 nearest_of kind ms = by_order Source Destination ms

@@ -1,4 +1,5 @@
--- Where a debugger stands: what lies ahead, and what comes next (docs/CONSOLE.md, "Where it stands").
+-- Where a debugger stands: what lies ahead, and what comes next (docs/CONSOLE.md, "Where it
+-- stands").
 use Rattle.std.specs.Prelude.{ℕ, ◌-◌, Bool, false, if◌then◌else◌, List, [], ◌∷◌, length, map, slice_get, Option, Some, None}
 use Rattle.std.specs.List.{list_all}
 use Rattle.std.specs.Option.{option_map}

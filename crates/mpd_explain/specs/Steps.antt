@@ -31,7 +31,8 @@ step_of (at.Wake c) = Wake c.call.rank
 step_of (at.WakeAny c i r) = WakeAny c.call.rank i
 step_of at.Release = Release
 
--- the call that a candidate is chosen for: the receive of a match, and the waitany that a rank goes on from
+-- the call that a candidate is chosen for: the receive of a match, and the waitany that a rank goes
+-- on from
 abbrev pub chooser : PlacedStep → Option PlacedCall
 chooser (at.Match c d) = Some d
 chooser (at.WakeAny c i r) = Some c

@@ -49,9 +49,9 @@ fn bare_end(ending: &Ending) -> End
 }
 
 /// The end of a leaf that was listed along a schedule: its run is made again from the debugger's
-/// state, if there is more to its end than that it ends so. The fuel is the one of that exploration.
-/// The debugger is left as found, also on `Err`, which means that memory was refused; this happens
-/// only if the leaf is a deadlock or a trap, or has leftovers.
+/// state, if there is more to its end than that it ends so. The fuel is the one of that
+/// exploration. The debugger is left as found, also on `Err`, which means that memory was refused;
+/// this happens only if the leaf is a deadlock or a trap, or has leftovers.
 pub fn explain<S: Schedule>(
     alloc: Global,
     schedule: &S,

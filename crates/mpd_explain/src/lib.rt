@@ -1,5 +1,6 @@
-//! What is known of a state and of a run, as values, and what people are told of it: steps with what they are about, where ranks stand, why
-//! a call isn't matched, requests that are lost, why a run ended in a deadlock or a trap and what it left over.
+//! What is known of a state and of a run, as values, and what people are told of it: steps with
+//! what they are about, where ranks stand, why a call isn't matched, requests that are lost, why a
+//! run ended in a deadlock or a trap and what it left over.
 #![tactic(auto)]
 
 pub mod ends;

@@ -290,8 +290,8 @@ pub fn push_enabled(alloc: Global, core: &Core<'_>, out: &mut String) -> Result<
     push_or_none(out, "no step is enabled", &lines)
 }
 
-/// Adds the last `count` steps that are not undone, in words, each after its number, or that no step
-/// is taken. `Err` means that memory was refused.
+/// Adds the last `count` steps that are not undone, in words, each after its number, or that no
+/// step is taken. `Err` means that memory was refused.
 pub fn push_history(
     alloc: Global,
     debugger: &Debugger<'_>,

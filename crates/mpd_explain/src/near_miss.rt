@@ -195,7 +195,8 @@ fn by_order(next: Miss, last: Miss, misses: &[(CallId, Miss)]) -> Option<(CallId
     first_miss(last, misses)
 }
 
-/// The first that differs in the tag alone, else the first of the rank that is waited for, else the first of another.
+/// The first that differs in the tag alone, else the first of the rank that is waited for, else the
+/// first of another.
 fn nearest_of(kind: Option<CallKind>, misses: &[(CallId, Miss)]) -> Option<(CallId, Miss)>
     ensures { result ≡ missed.nearest_of kind misses.now }
 {
@@ -209,7 +210,8 @@ fn nearest_of(kind: Option<CallKind>, misses: &[(CallId, Miss)]) -> Option<(Call
     }
 }
 
-/// Whether a rank waits for a call of this kind from when it issues it, or it is a send that is buffered.
+/// Whether a rank waits for a call of this kind from when it issues it, or it is a send that is
+/// buffered.
 fn is_at_once(kind: Option<CallKind>) -> bool
     ensures { result ≡ missed.is_at_once kind }
 {

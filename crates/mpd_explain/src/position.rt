@@ -1,4 +1,5 @@
-//! Where a debugger stands: what lies ahead, and what comes next (docs/CONSOLE.md, "Where it stands").
+//! Where a debugger stands: what lies ahead, and what comes next (docs/CONSOLE.md, "Where it
+//! stands").
 
 ghost use Rattle.std.specs.Prelude.{◌≡◌, IfOk, map};
 ghost use Rattle.std.specs.List.{list_all};

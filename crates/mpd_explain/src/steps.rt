@@ -70,8 +70,8 @@ impl PlacedStep {
         }
     }
 
-    /// The call that it is chosen for, if it is a candidate of a choice: the receive of a match, and
-    /// the waitany that a rank goes on from.
+    /// The call that it is chosen for, if it is a candidate of a choice: the receive of a match,
+    /// and the waitany that a rank goes on from.
     pub fn chooser(self) -> Option<PlacedCall>
         ensures { result ≡ spec.chooser self }
     {
@@ -150,7 +150,8 @@ pub fn placed_steps(
     Ok(PlacedStepList { items })
 }
 
-/// The steps that are enabled, in the order in which they are listed (docs/DEFINITIONS.md, "Order").
+/// The steps that are enabled, in the order in which they are listed (docs/DEFINITIONS.md,
+/// "Order").
 /// `Err` means that memory was refused.
 pub fn enabled_steps(alloc: Global, core: &Core<'_>) -> Result<PlacedStepList, AllocError>
     ensures { IfOk result (λ placed. placed ≡ spec.enabled_steps core.now.program core.now.world) }

@@ -1,4 +1,5 @@
-//! What is said of calls, steps and ends, for people (docs/FORMATS.md, "Explanations"; docs/CONSOLE.md).
+//! What is said of calls, steps and ends, for people (docs/FORMATS.md, "Explanations";
+//! docs/CONSOLE.md).
 
 use crate::ends::{Absence, AwaitedRankList, End, TrapPlace, Wait};
 use crate::lost::Loss;
@@ -356,8 +357,8 @@ fn push_told(
     }
 }
 
-/// Adds a step by what it does, and its trace word after that (docs/CONSOLE.md, "Candidates"). If it
-/// is one of candidates that are all for one call, that call isn't repeated. `decls` are the
+/// Adds a step by what it does, and its trace word after that (docs/CONSOLE.md, "Candidates"). If
+/// it is one of candidates that are all for one call, that call isn't repeated. `decls` are the
 /// declarations of the script. `Err` means that memory was refused.
 pub fn push_candidate(
     out: &mut String,
