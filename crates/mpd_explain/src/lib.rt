@@ -3,7 +3,9 @@
 //! run ended in a deadlock or a trap and what it left over.
 #![tactic(auto)]
 
+pub mod copies;
 pub mod ends;
+pub mod equal;
 pub mod explanation;
 pub mod history;
 pub mod laws;
@@ -20,10 +22,12 @@ pub mod waits;
 pub mod why;
 pub mod words;
 
+pub use copies::{copy_end, copy_losses, copy_steps};
 pub use ends::{
     Absence, AbsenceList, AwaitedRank, AwaitedRankList, CycleList, End, PlacedList, TrapPlace,
     TrapPlaceList, Wait, WaitList, WishList, absences, end_of, outcome_end, tells_of,
 };
+pub use equal::{same_end, same_losses, same_steps};
 pub use explanation::{explain, explain_all};
 pub use history::history_of;
 pub use laws::calls_name_their_statements;

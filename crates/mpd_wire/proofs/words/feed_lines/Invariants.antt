@@ -1,8 +1,8 @@
 use Rattle.std.proofs.Common.{◌≡◌, ◌++◌, length, map, string_bytes}
 use denote.Shadow.{shadow}
 use denote.Text.{Utf8}
-use Rattle.mpd_session.specs.Looks.{feed_lines}
-use Rattle.mpd_session.proofs.decided.feed_lines.Given as goal
+use Rattle.mpd_wire.specs.Words.{feed_lines}
+use Rattle.mpd_wire.proofs.words.feed_lines.Given as goal
 
 abbrev pub invariant-loop-line : goal.invariant-loop-line
 invariant-loop-line l = record {
