@@ -30,7 +30,7 @@ pub use ends::{
 pub use equal::{same_end, same_losses, same_steps};
 pub use explanation::{explain, explain_all};
 pub use history::history_of;
-pub use laws::calls_name_their_statements;
+pub use laws::{calls_name_their_statements, placed_steps_are_their_steps};
 pub use look_words::{
     push_call, push_calls, push_enabled, push_history, push_position, push_queues, push_ranks,
     push_why, push_why_rank, push_why_ranks, push_words,
