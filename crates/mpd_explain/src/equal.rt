@@ -324,12 +324,7 @@ fn is_match(step: PlacedStep, send: PlacedCall, receive: PlacedCall) -> bool
 }
 
 /// Whether a step is that a rank goes on from this waitany, by this request.
-fn is_wake_any(
-    step: PlacedStep,
-    call: PlacedCall,
-    index: usize,
-    request: Option<Completed>,
-) -> bool
+fn is_wake_any(step: PlacedStep, call: PlacedCall, index: usize, request: Option<Completed>) -> bool
     ensures { Decides result (at.WakeAny call index request ≡ step) }
 {
     match step {

@@ -13,11 +13,7 @@ use mpd_model::{CallId, Decl, Mode};
 use std::alloc::{AllocError, Global};
 
 /// Adds a copy of a text.
-fn push_copy(
-    alloc: Global,
-    copies: &mut Vec<String>,
-    text: &str,
-) -> Result<(), AllocError>
+fn push_copy(alloc: Global, copies: &mut Vec<String>, text: &str) -> Result<(), AllocError>
     ensures { OnOk result (map string_bytes copies.new.items ≡ map string_bytes copies.old.items ++ text.now ∷ []) }
 {
     copies.push(String::from_str(alloc, text)?)?;
@@ -330,10 +326,7 @@ fn copy_end_of(alloc: Global, told: &Explained) -> Result<Explained, AllocError>
 }
 
 /// The same, if it has ended.
-fn copy_explained(
-    alloc: Global,
-    told: &Option<Explained>,
-) -> Result<Option<Explained>, AllocError>
+fn copy_explained(alloc: Global, told: &Option<Explained>) -> Result<Option<Explained>, AllocError>
     ensures { IfOk result (λ copy. copy ≡ told.now) }
 {
     match told {

@@ -114,11 +114,7 @@ pub fn decision(alloc: Global, core: &Core<'_>) -> Result<Effect, AllocError>
 }
 
 /// How a run has ended with this outcome, with what is known of that.
-fn explained_of(
-    alloc: Global,
-    core: &Core<'_>,
-    outcome: &Outcome,
-) -> Result<Explained, AllocError>
+fn explained_of(alloc: Global, core: &Core<'_>, outcome: &Outcome) -> Result<Explained, AllocError>
     ensures { IfOk result (λ told. told ≡ spec.explained_of core.now.program core.now.world outcome.now) }
 {
     let lost = all_losses(alloc, core)?;

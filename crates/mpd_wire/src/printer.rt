@@ -202,12 +202,7 @@ fn refused_value(alloc: Global, refusal: Refusal) -> Result<Value, AllocError>
     }
 }
 
-fn done(
-    alloc: Global,
-    version: u64,
-    answer: &Answer,
-    words: &[String],
-) -> Result<Value, AllocError>
+fn done(alloc: Global, version: u64, answer: &Answer, words: &[String]) -> Result<Value, AllocError>
     ensures { IfOk result (λ v. view v ≡ object (members (answer_fields (map string_bytes words.now) answer.now ++ (codes "version", natural version) ∷ []))) }
 {
     match answer {

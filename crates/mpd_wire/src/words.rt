@@ -70,11 +70,7 @@ fn push_step(
 }
 
 /// What is told of steps, of each a text.
-fn step_words(
-    alloc: Global,
-    decls: &[Decl],
-    steps: &[PlacedStep],
-) -> Result<TextList, AllocError>
+fn step_words(alloc: Global, decls: &[Decl], steps: &[PlacedStep]) -> Result<TextList, AllocError>
     ensures { IfOk result (λ words. length words ≡ length steps.now) }
 {
     let mut items = Vec::new(alloc);
