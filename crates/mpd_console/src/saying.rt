@@ -5,9 +5,9 @@ use crate::desk::Screen;
 use crate::looks::push_sight;
 use crate::prompts::{laid_out, marked_bytes, prompt_in, push_prompt};
 use crate::told::{Carried, Laid, Moved, News, Numbered, Printed, Sight, Stopped, Told, Went, Why};
-use mpd_blame::{Blame, push_blame};
+use mpd_blame::{Blame, place_blame};
 use mpd_core::Core;
-use mpd_explain::{push_lost_told, push_standing, push_step};
+use mpd_explain::{losses, placed_step, position_of, push_losses, push_position};
 use mpd_lines::push_folded_at;
 use mpd_model::{Breakpoint, Decision, Decl, Step};
 use mpd_names::push_break;
@@ -27,7 +27,7 @@ pub(crate) fn step_words(
 ) -> Result<String, AllocError> {
     let mut out = String::new(alloc);
     if let Some(step) = step {
-        push_step(session.debugger().core(), &mut out, step)?;
+        write!(out, "{}", placed_step(session.debugger().core(), step))?;
     }
     Ok(out)
 }
@@ -41,8 +41,7 @@ pub(crate) fn blame_words(
     number: Option<usize>,
 ) -> Result<String, AllocError> {
     let mut out = String::new(alloc);
-    push_blame(core, &mut out, blame)?;
-    out.push('\n')?;
+    write!(out, "{}\n", place_blame(core, blame))?;
     if let Blame::At(decided) = blame {
         let step = decided.other;
         match number {
@@ -135,7 +134,9 @@ fn push_news(
     match decided {
         Decision::Leaf(_) => Ok(()),
         Decision::Forced(_) | Decision::Choice(_) => {
-            push_lost_told(core, out, &news.lost_before.items, &news.lost.items)
+            let alloc = *out.allocator();
+            let lost = losses(alloc, core, &news.lost_before.items, &news.lost.items)?;
+            push_losses(out, &lost)
         }
     }
 }
@@ -168,7 +169,8 @@ pub(crate) fn push_where(
 ) -> Result<(), AllocError> {
     let debugger = session.debugger();
     let decided = decide(alloc, debugger.core())?;
-    push_standing(alloc, debugger, script, out, decided)
+    let position = position_of(alloc, debugger, decided)?;
+    push_position(out, script, session.code(), &position)
 }
 
 /// Adds what is said of a move, given the step in words if it took one that is known.
@@ -188,7 +190,8 @@ fn push_moved(
         push_news(core, out, news, &decided)?;
     }
     push_stopped(out, core.code().decls(), moved.stopped)?;
-    push_standing(alloc, debugger, script, out, decided)
+    let position = position_of(alloc, debugger, decided)?;
+    push_position(out, script, core.code(), &position)
 }
 
 // ---- refusals
