@@ -95,8 +95,8 @@ fn limit_of(taken: usize) -> usize
     }
 }
 
-/// Where it was decided how the run of a debugger ends, as far as a search tells it that visits `most`
-/// states at most. On return the debugger is on the way back along its run.
+/// Where it was decided how the run of a debugger ends, as far as a search tells it that visits
+/// `most` states at most. On return the debugger is on the way back along its run.
 fn decided(
     alloc: Global,
     whole: &mut Debugger<'_>,
@@ -134,8 +134,8 @@ fn decided_if(
     Ok(Some(blame))
 }
 
-/// How the run of a debugger ends; the step that decides is looked for in so many states at most. The
-/// debugger is left on the way back along its run.
+/// How the run of a debugger ends; the step that decides is looked for in so many states at most.
+/// The debugger is left on the way back along its run.
 fn end_in(alloc: Global, whole: &mut Debugger<'_>, most: usize) -> Result<RunEnd, AllocError>
     requires clean { length whole.old.trail.steps ≡ whole.old.trail.depth }
     ensures { IfOk result (IsEndIn most whole.old.trail.program whole.old.trail.mode whole.old.world whole.old.trail.steps) }
@@ -297,7 +297,8 @@ fn push_end_text(
     add_text(out, "}")
 }
 
-/// Adds how a run ends in the state of this number, given the declarations and the text of the script.
+/// Adds how a run ends in the state of this number, given the declarations and the text of the
+/// script.
 #[tactic(auto, using(crate::proofs::EndLemmas::told_so))]
 fn push_told_end(
     out: &mut Vec<u8>,
@@ -315,8 +316,8 @@ fn push_told_end(
     push_end_text(out, number, end, &told, &lost, &decided)
 }
 
-/// Adds the end of the run of a debugger, in the state of this number; the step that decides is looked for in so many states at most. The
-/// debugger is left on the way back along its run.
+/// Adds the end of the run of a debugger, in the state of this number; the step that decides is
+/// looked for in so many states at most. The debugger is left on the way back along its run.
 #[tactic(auto, using(crate::proofs::EndLemmas::ending))]
 pub(crate) fn push_end(
     whole: &mut Debugger<'_>,
@@ -332,5 +333,6 @@ pub(crate) fn push_end(
     let end = end_in(*out.allocator(), whole, most)?;
     let added = push_told_end(out, number, whole.core().code().decls(), script, &end);
     drop(end);
-    added
+    added?;
+    Ok(())
 }
