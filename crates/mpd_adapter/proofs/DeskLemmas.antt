@@ -43,9 +43,9 @@ use Rattle.mpd_adapter.specs.Numbers.{one_more}
 use Rattle.mpd_adapter.specs.Moves.{after, word_in}
 use Rattle.mpd_adapter.specs.Halts.{stopped_in}
 use Rattle.mpd_adapter.specs.Marks.{marks_in, marked}
-use Rattle.mpd_adapter.specs.Looks.{body_in, IsBody}
+use Rattle.mpd_adapter.specs.Looks.{IsBodyIn, shown}
 use Rattle.mpd_adapter.specs.Answers.{Heard, IsSheet, frames_of, number_after}
-use Rattle.mpd_adapter.specs.Says.{Adapter, task_in, stands_for, WordsSay, move_body, said_body, looked, looked_answer, announced, begun_in, begun_answer, all_started, moved_answer, marked_answer, answer_of, wanted_of, is_own, marked_by, marks_by, path_or, path_then, over_then, memory_frames, next_number, Spoken, line_for, expression_of, has_changed, evaluated_body, evaluated_answer, without_feed, ends_in_feed, Wrote, Told, Kept, Unheard, Heeds, SaysBy, Says}
+use Rattle.mpd_adapter.specs.Says.{Adapter, task_in, stands_for, WordsSay, move_body, said_body, looked, Looked, Shows, announced, begun_in, begun_answer, all_started, moved_answer, marked_answer, answer_of, wanted_of, is_own, marked_by, marks_by, path_or, path_then, over_then, memory_frames, next_number, Spoken, line_for, expression_of, has_changed, evaluated_body, evaluated_answer, without_feed, ends_in_feed, Wrote, Told, Kept, Unheard, Heeds, SaysBy, Says}
 
 -- ---- sheets, by what their bodies are
 
@@ -57,11 +57,11 @@ moved_sheet n k m asked a said z s body told stands b t at is sheet =
     (subst (λ y. P body y (stopped_in (after asked) s)) t
     (subst (λ v. P body told v) (is ∙ ap (λ x. stopped_in x s) at) sheet))
 
-pub looked_some : (n k : ℕ) (m : Message) (s : Held) (path z : List ℕ) (l : Look) (j : Json) → IsBody (Some j) (body_in s path l) → IsSheet n (frames_of n m (Ok (view j.value, []))) z k → IsSheet n (frames_of n m (looked_answer s path l)) z k
-looked_some n k m s path z l j b sheet = subst (λ x. IsSheet n (frames_of n m (looked x)) z k) b sheet
+pub looked_some : (n k : ℕ) (m : Message) (s : Held) (path z : List ℕ) (l : Look) (j : Json) → IsBodyIn s path l (shown (Some j)) → IsSheet n (frames_of n m (Ok (view j.value, []))) z k → Looked n m s path l z k
+looked_some n k m s path z l j is sheet = (Some (view j.value), is, sheet)
 
-pub looked_none : (n k : ℕ) (m : Message) (s : Held) (path z : List ℕ) (l : Look) → IsBody None (body_in s path l) → IsSheet n (frames_of n m (Err refusal.NotEnded)) z k → IsSheet n (frames_of n m (looked_answer s path l)) z k
-looked_none n k m s path z l b sheet = subst (λ x. IsSheet n (frames_of n m (looked x)) z k) b sheet
+pub looked_none : (n k : ℕ) (m : Message) (s : Held) (path z : List ℕ) (l : Look) → IsBodyIn s path l (shown None) → IsSheet n (frames_of n m (Err refusal.NotEnded)) z k → Looked n m s path l z k
+looked_none n k m s path z l is sheet = (None, is, sheet)
 
 pub ruleset looking = (looked_some, looked_none)
 
@@ -85,7 +85,9 @@ pub wrote_marked : (d : Adapter) (e : Console) (m : Message) (list lent : List M
     → Wrote d Marks m e z k
 wrote_marked d e m list lent z n k same is l first sheet = (
   [],
+  None,
   (refl, same),
+  refl,
   subst (λ x. IsSheet d.number (frames_of d.number m (marked_answer x)) z k) (l ∙ is) (subst (λ f. IsSheet f (frames_of f m (marked_answer lent)) z k) first sheet),
 )
 
@@ -192,7 +194,9 @@ pub talked : (d : Adapter) (e : Console) (how : Manner) (p : Option ℕ) (m : Me
 talked d e how p m line text z n k v w b s is says old new differs first at sheet =
     let c : b ≡ has_changed d.console.session e.session = differs ∙ ap (λ x. not (x == v)) new ∙ ap (λ x. not (e.session.version == x)) old in (
       text,
+      None,
       subst (λ y. ConsoleSays d.console y text e) is says,
+      refl,
       subst (λ t. IsSheet d.number (frames_of d.number m (evaluated_answer (has_changed d.console.session e.session) text t)) z k) at
           (subst (λ x. IsSheet d.number (frames_of d.number m (evaluated_answer x text s)) z k) c (subst (λ f. IsSheet f (frames_of f m (evaluated_answer b text s)) z k) first sheet)),
     )
@@ -215,7 +219,9 @@ pub went : (d : Adapter) (e : Console) (asked : Move) (m : Message) (x : Word) (
     → IsSheet n (frames_of n m (moved_answer asked text s)) z k → Wrote d (Moves asked) m e z k
 went d e asked m x text z n k s is words first at sheet = (
   text,
+  None,
   subst (λ y. WordsSay d.console (y ∷ []) e) is words,
+  refl,
   subst (λ t. IsSheet d.number (frames_of d.number m (moved_answer asked text t)) z k) at (subst (λ f. IsSheet f (frames_of f m (moved_answer asked text s)) z k) first sheet),
 )
 
@@ -229,26 +235,29 @@ pub ruleset moving = (went, kept_before, kept_behind)
 
 -- ---- what stands for no word
 
-wrote_so : (d : Adapter) (t : Task) (m : Message) (e : Console) (z : List ℕ) (n k : ℕ) → Spoken d t m [] e → n ≡ d.number → IsSheet n (frames_of n m (answer_of d t m [] e)) z k → Wrote d t m e z k
-wrote_so d t m e z n k none first sheet = ([], none, subst (λ f. IsSheet f (frames_of f m (answer_of d t m [] e)) z k) first sheet)
+wrote_so : (d : Adapter) (t : Task) (m : Message) (e : Console) (z : List ℕ) (n k : ℕ) → Spoken d t m [] e → Shows d t None → n ≡ d.number → IsSheet n (frames_of n m (answer_of d t m [] None e)) z k → Wrote d t m e z k
+wrote_so d t m e z n k none nothing first sheet = ([], None, none, nothing, subst (λ f. IsSheet f (frames_of f m (answer_of d t m [] None e)) z k) first sheet)
 
 pub wrote_refused : (d : Adapter) (r : Refusal) (m : Message) (e : Console) (z : List ℕ) (n k : ℕ) → e ≡ d.console → n ≡ d.number → IsSheet n (frames_of n m (Err r)) z k → Wrote d (Refused r) m e z k
-wrote_refused d r m e z n k same first sheet = wrote_so d (Refused r) m e z n k same first sheet
+wrote_refused d r m e z n k same first sheet = wrote_so d (Refused r) m e z n k same refl first sheet
 
-pub wrote_looked : (d : Adapter) (l : Look) (m : Message) (e : Console) (path z : List ℕ) (n k : ℕ) (s : Held) → e ≡ d.console → n ≡ d.number → path ≡ path_or d.path → s ≡ d.console.session → IsSheet n (frames_of n m (looked_answer s path l)) z k
-    → Wrote d (Looks l) m e z k
-wrote_looked d l m e path z n k s same first given at sheet =
-    wrote_so d (Looks l) m e z n k same first
-    (subst (λ y. IsSheet n (frames_of n m (looked_answer d.console.session y l)) z k) given (subst (λ t. IsSheet n (frames_of n m (looked_answer t path l)) z k) at sheet))
+pub wrote_looked : (d : Adapter) (l : Look) (m : Message) (e : Console) (path z : List ℕ) (n k : ℕ) (s : Held) → e ≡ d.console → n ≡ d.number → path ≡ path_or d.path → s ≡ d.console.session → Looked n m s path l z k → Wrote d (Looks l) m e z k
+wrote_looked d l m e path z n k s same first given at (body, is, sheet) = (
+  [],
+  body,
+  same,
+  subst (λ y. IsBodyIn d.console.session y l body) given (subst (λ t. IsBodyIn t path l body) at is),
+  subst (λ f. IsSheet f (frames_of f m (looked body)) z k) first sheet,
+)
 
 pub wrote_launched : (d : Adapter) (m : Message) (e : Console) (z : List ℕ) (n k : ℕ) → e ≡ d.console → n ≡ d.number → IsSheet n (frames_of n m (announced event.Initialized)) z k → Wrote d Launches m e z k
-wrote_launched d m e z n k same first sheet = wrote_so d Launches m e z n k same first sheet
+wrote_launched d m e z n k same first sheet = wrote_so d Launches m e z n k same refl first sheet
 
 pub wrote_begun : (d : Adapter) (m : Message) (e : Console) (z : List ℕ) (n k : ℕ) (s : Held) → e ≡ d.console → n ≡ d.number → s ≡ d.console.session → IsSheet n (frames_of n m (begun_answer s)) z k → Wrote d Begins m e z k
-wrote_begun d m e z n k s same first at sheet = wrote_so d Begins m e z n k same first (subst (λ t. IsSheet n (frames_of n m (begun_answer t)) z k) at sheet)
+wrote_begun d m e z n k s same first at sheet = wrote_so d Begins m e z n k same refl first (subst (λ t. IsSheet n (frames_of n m (begun_answer t)) z k) at sheet)
 
 pub wrote_ended : (d : Adapter) (m : Message) (e : Console) (z : List ℕ) (n k : ℕ) → e ≡ d.console → n ≡ d.number → IsSheet n (frames_of n m (announced event.Terminated)) z k → Wrote d Ends m e z k
-wrote_ended d m e z n k same first sheet = wrote_so d Ends m e z n k same first sheet
+wrote_ended d m e z n k same first sheet = wrote_so d Ends m e z n k same refl first sheet
 
 pub ruleset writing = (wrote_refused, wrote_looked, wrote_launched, wrote_begun, wrote_ended, kept_before)
 
@@ -260,15 +269,17 @@ OnlyConsole d c = c ≡ record d { console = c.console }
 
 pub handed : (d c e : Adapter) (t : Task) (m : Message) (z before after : List ℕ) (k : ℕ) → OnlyConsole d c → Wrote d t m c.console z k → after ≡ before ++ z
     → e ≡ record c { number = k; path = path_then c.path t m.ask; is_over = over_then c.is_over t } → (told : List (List ℕ)) × (after ≡ before ++ flat_map frame_text told) × Heeds d t m told e
-handed d c e t m z before after k only (text, words, sheet) h is =
-    let frames : List (List ℕ) = frames_of d.number m (answer_of d t m text c.console) in
+handed d c e t m z before after k only (text, body, words, shows, sheet) h is =
+    let frames : List (List ℕ) = frames_of d.number m (answer_of d t m text body c.console) in
     let con : e.console ≡ c.console = ap (λ (x : Adapter). x.console) is in (
       frames,
       h ∙ ap (λ y. before ++ y) sheet.text_is,
       inl (
         text,
+        body,
         subst (λ x. Spoken d t m text x) (sym con) words,
-        ap (λ x. frames_of d.number m (answer_of d t m text x)) (sym con),
+        shows,
+        ap (λ x. frames_of d.number m (answer_of d t m text body x)) (sym con),
         ap (λ (x : Adapter). x.number) is ∙ sheet.number_is,
         ap (λ (x : Adapter). x.path) is ∙ ap (λ (x : Adapter). path_then x.path t m.ask) only,
         ap (λ (x : Adapter). x.is_over) is ∙ ap (λ (x : Adapter). over_then x.is_over t) only,
@@ -276,7 +287,7 @@ handed d c e t m z before after k only (text, words, sheet) h is =
     )
 
 kept_of : (d : Adapter) (t : Task) (m : Message) (e : Console) (z : List ℕ) (k : ℕ) → Wrote d t m e z k → Kept d t m e
-kept_of d t m e z k (text, words, sheet) = inr (text, words)
+kept_of d t m e z k (text, body, words, shows, sheet) = inr (text, words)
 
 -- memory was refused, whatever the console has done
 pub unheard : (d c e : Adapter) (t : Task) (m : Message) (before after : List ℕ) → OnlyConsole d c → Kept d t m c.console → after ≡ before ++ flat_map frame_text (memory_frames c) → e ≡ record c { number = next_number c }

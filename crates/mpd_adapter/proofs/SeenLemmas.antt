@@ -1,5 +1,5 @@
 -- What is seen of the world of a session, by the debugger that it has.
-use Rattle.std.proofs.Common.{◌≡◌, ℕ, List, Option, None, ap, sym, ◌∙◌}
+use Rattle.std.proofs.Common.{◌≡◌, ℕ, List, Option, None, ap, sym, ◌∙◌, subst}
 use Rattle.serde_json.specs.Data.{Data}
 use Rattle.mpd_model.specs.steps.World.{World}
 use Rattle.mpd_model.specs.runs.Trail.{Trail, IsReached, world_of}
@@ -14,7 +14,7 @@ use Rattle.mpd_adapter.specs.declared.moves.After.{After}
 use Rattle.mpd_adapter.specs.declared.halt.Halt.{Halt}
 use Rattle.mpd_adapter.specs.declared.moves.Move.{Move}
 use Rattle.mpd_adapter.specs.Seen.{seen}
-use Rattle.mpd_adapter.specs.Looks.{body_at, body_in, IsBody}
+use Rattle.mpd_adapter.specs.Looks.{IsBodyAt, IsBodyIn, shown}
 use Rattle.mpd_adapter.specs.Halts.{reason, description, halt_rank, halt_at, halt_in, stopped_by, stopped_in}
 use Rattle.mpd_adapter.specs.Moves.{word_for, word_in}
 use Rattle.mpd_adapter.specs.Numbers.{one_more}
@@ -25,8 +25,8 @@ use Rattle.mpd_dap.specs.declared.name.Reason.{Reason}
 seen_at : {A : Type 0} (other : A) (tell : Trail → World → A) (s : Held) (d : DebuggerView) → IsReached (standing_of d) → d.trail ≡ s.trail → tell d.trail d.world ≡ seen other (tell s.trail) (world_of s.trail)
 seen_at other tell s d r e = ap (λ t. tell t d.world) e ∙ sym (ap (seen other (tell s.trail)) (ap world_of (sym e) ∙ r.world))
 
-pub body_seen : (s : Held) (d : DebuggerView) (path : List ℕ) (l : Look) (body : Option Json) → IsReached (standing_of d) → d.trail ≡ s.trail → IsBody body (body_at d.trail.program d.world path l) → IsBody body (body_in s path l)
-body_seen s d path l body r e is = is ∙ seen_at None (λ (t : Trail) w. body_at t.program w path l) s d r e
+pub body_seen : (s : Held) (d : DebuggerView) (path : List ℕ) (l : Look) (body : Option Json) → IsReached (standing_of d) → d.trail ≡ s.trail → IsBodyAt d.trail.program d.world path l (shown body) → IsBodyIn s path l (shown body)
+body_seen s d path l body r e is = (d.world, ap world_of (sym e) ∙ r.world, subst (λ (t : Trail). IsBodyAt t.program d.world path l (shown body)) e is)
 
 pub halt_seen : (s : Held) (d : DebuggerView) (a : After) (h : Halt) → IsReached (standing_of d) → d.trail ≡ s.trail → h ≡ halt_at a d.trail (decision d.world) → h ≡ halt_in a s
 halt_seen s d a h r e is = is ∙ seen_at halt.Jumped (λ t w. halt_at a t (decision w)) s d r e

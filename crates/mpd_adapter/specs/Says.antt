@@ -31,7 +31,7 @@ use Rattle.mpd_adapter.specs.declared.task.Task.TheVariants.{Refused, Looks, Lau
 use Rattle.mpd_adapter.specs.Numbers.{one_more}
 use Rattle.mpd_adapter.specs.Moves.{after, word_in}
 use Rattle.mpd_adapter.specs.Halts.{stopped_in}
-use Rattle.mpd_adapter.specs.Looks.{body_in}
+use Rattle.mpd_adapter.specs.Looks.{IsBodyIn}
 use Rattle.mpd_adapter.specs.Marks.{marks_in, marked}
 use Rattle.mpd_adapter.specs.Tasks.{task_of}
 use Rattle.mpd_adapter.specs.Answers.{Heard, Answer, IsSheet, frames_of, number_after}
@@ -158,8 +158,10 @@ abbrev pub looked : Option Data → Result Answer Refusal
 looked None = Err refusal.NotEnded
 looked (Some body) = Ok (body, [])
 
-abbrev pub looked_answer : Held → List ℕ → Look → Result Answer Refusal
-looked_answer s path l = looked (body_in s path l)
+-- what is shown by a look; by another task nothing
+abbrev pub Shows : Adapter → Task → Option Data → Type 0
+Shows d (Looks l) shown = IsBodyIn d.console.session (path_or d.path) l shown
+Shows d other shown = shown ≡ None
 
 abbrev pub announced : Event → Result Answer Refusal
 announced e = Ok (nothing_data, (e, nothing_data) ∷ [])
@@ -175,16 +177,16 @@ moved_answer m text s = Ok (move_body m, (event.Output, said_body text) ∷ ((ev
 abbrev pub marked_answer : List Mark → Result Answer Refusal
 marked_answer marks = Ok (marks_data marks, [])
 
--- given what the console has said, and what it is then
-abbrev pub answer_of : Adapter → Task → Message → List ℕ → Console → Result Answer Refusal
-answer_of d (Refused r) m text e = Err r
-answer_of d (Looks l) m text e = looked_answer d.console.session (path_or d.path) l
-answer_of d Launches m text e = announced event.Initialized
-answer_of d Begins m text e = begun_answer d.console.session
-answer_of d Ends m text e = announced event.Terminated
-answer_of d Marks m text e = marked_answer (marks_by d m)
-answer_of d (Moves asked) m text e = moved_answer asked text e.session
-answer_of d (Evaluates n p) m text e = evaluated_answer (has_changed d.console.session e.session) text e.session
+-- given what the console has said, what is shown, and what the console is then
+abbrev pub answer_of : Adapter → Task → Message → List ℕ → Option Data → Console → Result Answer Refusal
+answer_of d (Refused r) m text shown e = Err r
+answer_of d (Looks l) m text shown e = looked shown
+answer_of d Launches m text shown e = announced event.Initialized
+answer_of d Begins m text shown e = begun_answer d.console.session
+answer_of d Ends m text shown e = announced event.Terminated
+answer_of d Marks m text shown e = marked_answer (marks_by d m)
+answer_of d (Moves asked) m text shown e = moved_answer asked text e.session
+answer_of d (Evaluates n p) m text shown e = evaluated_answer (has_changed d.console.session e.session) text e.session
 
 -- ---- what changes besides the console
 
@@ -203,14 +205,18 @@ over_then over other = over
 
 -- ---- the answer to a message
 
+-- This is written of a look.
+abbrev pub Looked : ℕ → Message → Held → List ℕ → Look → List ℕ → ℕ → Type 0
+Looked n m s path l text number = (shown : Option Data) × IsBodyIn s path l shown × IsSheet n (frames_of n m (looked shown)) text number
+
 -- The words are done, and this is written of them.
 abbrev pub Wrote : Adapter → Task → Message → Console → List ℕ → ℕ → Type 0
-Wrote d t m e text number = (said : List ℕ) × Spoken d t m said e × IsSheet d.number (frames_of d.number m (answer_of d t m said e)) text number
+Wrote d t m e text number = (said : List ℕ) × (shown : Option Data) × Spoken d t m said e × Shows d t shown × IsSheet d.number (frames_of d.number m (answer_of d t m said shown e)) text number
 
 -- the same, frame by frame
 abbrev pub Told : Adapter → Task → Message → List (List ℕ) → Adapter → Type 0
 Told d t m frames e =
-    (said : List ℕ) × Spoken d t m said e.console × (frames ≡ frames_of d.number m (answer_of d t m said e.console)) × (e.number ≡ number_after d.number frames)
+    (said : List ℕ) × (shown : Option Data) × Spoken d t m said e.console × Shows d t shown × (frames ≡ frames_of d.number m (answer_of d t m said shown e.console)) × (e.number ≡ number_after d.number frames)
     × (e.path ≡ path_then d.path t m.ask) × (e.is_over ≡ over_then d.is_over t)
 
 -- The console is as before, or its words are done.

@@ -9,15 +9,30 @@ use Rattle.mpd_model.specs.script.Declaration.{Declared}
 use Rattle.mpd_model.specs.script.Program.{Program}
 use Rattle.mpd_model.specs.steps.World.{RankWorld, World, Board, call_id, call_numbers}
 use Rattle.mpd_model.specs.texts.Texts as texts
-use Rattle.mpd_names.specs.Called.{cell_name}
+use Rattle.mpd_names.specs.declared.text.NamedCell.{NamedCell}
+use Rattle.mpd_names.specs.Called.{named_cell}
 use Rattle.mpd_dap.specs.declared.listed.Variable.{Variable as Entry}
 use Rattle.mpd_adapter.specs.declared.numbers.Scope.{Scope}
 use Rattle.mpd_adapter.specs.declared.numbers.Scope.TheVariants.{Variables, Requests, Calls, Printed}
 
 -- ---- texts
 
+-- `x`, or `a[2]`: the cell of an index of a declaration
+abbrev pub index_text : Option ℕ → ℕ → List ℕ
+index_text None i = []
+index_text (Some size) i = codes "[" ++ decimal i ++ codes "]"
+
+abbrev pub element_text : Option Declared → ℕ → List ℕ
+element_text None i = []
+element_text (Some d) i = d.name ++ index_text d.size i
+
+abbrev pub named_text : List Declared → Option NamedCell → List ℕ
+named_text ds None = []
+named_text ds (Some c) = element_text (slice_get ds c.declaration) c.index
+
+-- a cell by its name
 abbrev pub cell_text : List Declared → DeclKind → ℕ → List ℕ
-cell_text ds kind c = cell_name ds kind c
+cell_text ds kind c = named_text ds (named_cell ds kind c)
 
 abbrev pub value_text : Option ℤ → List ℕ
 value_text None = []

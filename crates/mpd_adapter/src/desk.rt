@@ -220,7 +220,7 @@ fn looked_sheet(
     path: &str,
     look: Look,
 ) -> Result<Sheet, AllocError>
-    ensures { IfOk result (λ sheet. IsSheet number (frames_of number message.now (spec.looked_answer session.now path.now look)) sheet.text.items sheet.number) }
+    ensures { IfOk result (λ sheet. spec.Looked number message.now session.now path.now look sheet.text.items sheet.number) }
 {
     match body_in(alloc, session, path, look)? {
         None => refusal(alloc, number, message, Refusal::NotEnded),

@@ -1,5 +1,6 @@
 //! Laws of what an editor is told (docs/ADAPTER.md, "Frames and messages").
-ghost use Rattle.std.specs.Prelude.{◌≡◌, ◌∷◌, [], ℕ, List, None, Ok, Result};
+ghost use Rattle.std.specs.Prelude.{◌≡◌, ◌∷◌, [], ℕ, List, None, Ok, Option, Result};
+ghost use Rattle.serde_json.specs.Data.{Data};
 ghost use Rattle.mpd_session.specs.Held.{Held};
 ghost use Rattle.mpd_console.specs.Says.{Console};
 ghost use Rattle.mpd_dap.specs.declared.ask.Message.{Message};
@@ -30,7 +31,7 @@ pub fn one_response_comes_first()
 /// A law: a move stands for one word, and tells what the console says of it and then where the session stands; nothing follows.
 pub fn moves_tell_where_they_stop()
     ensures word { (s : Held) (m : Move) → stands_for s (task.Moves m) ≡ word_in s m ∷ [] }
-    ensures stop { (d : Adapter) (m : Move) (asked : Message) (text : List ℕ) (e : Console) → answer_of d (task.Moves m) asked text e ≡ Ok (move_body m, (event.Output, said_body text) ∷ ((event.Stopped, stopped_in (after m) e.session) ∷ [])) }
+    ensures stop { (d : Adapter) (m : Move) (asked : Message) (text : List ℕ) (shown : Option Data) (e : Console) → answer_of d (task.Moves m) asked text shown e ≡ Ok (move_body m, (event.Output, said_body text) ∷ ((event.Stopped, stopped_in (after m) e.session) ∷ [])) }
 {}
 
 /// A law: a body that is no message changes nothing, and nothing is told of it but that memory was refused, if it was.

@@ -1,13 +1,13 @@
 //! What is told of a state that nothing changes (docs/ADAPTER.md, "Looks").
 
-ghost use Rattle.std.specs.Prelude.{◌≡◌, ◌≤◌, IfOk, map, string_bytes};
+ghost use Rattle.std.specs.Prelude.{◌≡◌, ◌≤◌, IfOk, map};
 ghost use Rattle.serde_json.specs.View.{view};
 ghost use Rattle.mpd_model.specs.runs.Decisions.{decision};
 ghost use Rattle.mpd_adapter.specs.Looks as spec;
 
 use crate::moves::{open_among, own_among};
 use crate::numbers::{Shelf, thread_of};
-use crate::rank::push_rank_doing;
+use crate::rank::{RankDoing, rank_doing};
 use crate::shelves::held_at;
 use crate::task::Look;
 use mpd_core::Core;
@@ -15,63 +15,94 @@ use mpd_dap::{
     Json, Target, Text, Thread, capabilities, ended_frame, exception, nothing, scopes,
     standing_frame, targets, threads, variables,
 };
-use mpd_explain::{push_candidate, push_told};
-use mpd_model::{Decision, Outcome, RANKS_MAX, Step};
-use mpd_names::{end_name, stand};
-use mpd_policy::{Ending, decide};
+use mpd_explain::{End, PlacedStep, outcome_end, placed_step, push_candidate, push_end};
+use mpd_model::{Decision, Decl, Outcome, RANKS_MAX, Step};
+use mpd_names::stand;
+use mpd_policy::decide;
 use mpd_session::Session;
 use std::alloc::{AllocError, Global};
 
-/// What is told of a rank, from 0.
-fn rank_name(alloc: Global, core: &Core<'_>, rank: usize) -> Result<Text, AllocError>
-    ensures { IfOk result (λ name. name ≡ spec.rank_name core.now.program core.now.world rank) }
-{
-    let mut string = String::new(alloc);
-    push_rank_doing(core, &mut string, rank)?;
-    Ok(Text { string })
-}
+// ---- ranks
 
-/// A rank, from 0, as a thread.
-fn thread_at(alloc: Global, core: &Core<'_>, rank: usize) -> Result<Thread, AllocError>
-    ensures { IfOk result (λ thread. thread ≡ spec.thread_at core.now.program core.now.world rank) }
-{
-    let name = rank_name(alloc, core, rank)?;
-    Ok(Thread {
-        id: thread_of(rank),
-        name,
-    })
-}
-
-/// All ranks as threads.
-fn threads_of(alloc: Global, core: &Core<'_>) -> Result<Vec<Thread>, AllocError>
-    ensures { IfOk result (λ list. list.items ≡ spec.threads_of core.now.program core.now.world) }
+/// What all ranks are doing.
+fn doings_of(alloc: Global, core: &Core<'_>) -> Result<Vec<RankDoing>, AllocError>
+    ensures { IfOk result (λ list. list.items ≡ spec.doings_of core.now.program core.now.world) }
 {
     let mut list = Vec::new(alloc);
     let count = core.rank_count();
     for rank in 0..count {
-        list.push(thread_at(alloc, core, rank)?)?;
+        list.push(rank_doing(core, rank))?;
+    }
+    Ok(list)
+}
+
+/// What is told of a rank.
+fn name_of(alloc: Global, doing: RankDoing) -> Result<Text, AllocError> {
+    let mut string = String::new(alloc);
+    write!(string, "{doing}")?;
+    Ok(Text { string })
+}
+
+/// A rank as a thread.
+fn thread(alloc: Global, doing: RankDoing) -> Result<Thread, AllocError>
+    ensures { IfOk result (λ thread. thread.id ≡ spec.doing_id doing) }
+{
+    let name = name_of(alloc, doing)?;
+    Ok(Thread {
+        id: thread_of(doing.rank),
+        name,
+    })
+}
+
+/// Ranks as threads.
+fn threads_of(alloc: Global, doings: &[RankDoing]) -> Result<Vec<Thread>, AllocError>
+    ensures { IfOk result (λ list. map spec.thread_id list.items ≡ map spec.doing_id doings.now) }
+{
+    let mut list = Vec::new(alloc);
+    for doing in doings {
+        list.push(thread(alloc, *doing)?)?;
     }
     Ok(list)
 }
 
 /// The body that lists all threads.
+#[tactic(auto, using(crate::proofs::LookLemmas::threads_so))]
 fn threads_body(alloc: Global, core: &Core<'_>) -> Result<Json, AllocError>
-    ensures { IfOk result (λ body. view body.value ≡ spec.threads_body core.now.program core.now.world) }
+    ensures { IfOk result (λ body. spec.IsThreads core.now.program core.now.world (view body.value)) }
 {
-    let list = threads_of(alloc, core)?;
-    threads(alloc, &list)
+    let doings = doings_of(alloc, core)?;
+    let list = threads_of(alloc, &doings)?;
+    let body = threads(alloc, &list)?;
+    Ok(body)
+}
+
+/// The frame of a rank, from 0, by the line where it stands, if it stands at one.
+fn frame_at(
+    alloc: Global,
+    rank: usize,
+    name: &str,
+    path: &str,
+    line: Option<usize>,
+) -> Result<Json, AllocError>
+    ensures { IfOk result (λ body. view body.value ≡ spec.stack_by rank name.now path.now line) }
+{
+    match line {
+        None => ended_frame(alloc, thread_of(rank), name),
+        Some(line) => standing_frame(alloc, thread_of(rank), line, name, path),
+    }
 }
 
 /// The body that has the frame of a rank, from 0, given the path of the script.
+#[tactic(auto, using(crate::proofs::LookLemmas::stack_so))]
 fn stack_body(alloc: Global, core: &Core<'_>, path: &str, rank: usize) -> Result<Json, AllocError>
-    ensures { IfOk result (λ body. view body.value ≡ spec.stack_body core.now.program core.now.world path.now rank) }
+    ensures { IfOk result (λ body. spec.IsStack core.now.program core.now.world path.now rank (view body.value)) }
 {
-    let name = rank_name(alloc, core, rank)?;
-    match stand(core, rank) {
-        None => ended_frame(alloc, thread_of(rank), name.as_str()),
-        Some(line) => standing_frame(alloc, thread_of(rank), line, name.as_str(), path),
-    }
+    let name = name_of(alloc, rank_doing(core, rank))?;
+    let body = frame_at(alloc, rank, name.as_str(), path, stand(core, rank))?;
+    Ok(body)
 }
+
+// ---- what ranks hold
 
 /// The reference of the first scope of a rank, from 0; 0 of one that no script has.
 fn first_reference(rank: usize) -> usize
@@ -92,89 +123,166 @@ fn variables_body(alloc: Global, core: &Core<'_>, shelf: Shelf) -> Result<Json, 
     variables(alloc, &list)
 }
 
-/// What the word `enabled` of the console tells of a candidate, if it is there.
-fn label(alloc: Global, core: &Core<'_>, step: Option<Step>) -> Result<Text, AllocError>
-    ensures { IfOk result (λ text. text ≡ spec.label_by core.now.program core.now.world step) }
+// ---- candidates
+
+/// A candidate of a choice.
+#[derive(Clone, Copy)]
+pub struct Candidate {
+    /// Its number, from 1.
+    pub number: usize,
+    /// The step, if it is there.
+    pub step: Option<PlacedStep>,
+}
+
+/// A step with what it is about, if there is one.
+fn placed_if(core: &Core<'_>, step: Option<Step>) -> Option<PlacedStep>
+    ensures { result ≡ spec.placed_if core.now.program core.now.world step }
 {
-    let mut string = String::new(alloc);
-    if let Some(step) = step {
-        push_candidate(core, &mut string, false, step)?;
+    match step {
+        None => None,
+        Some(step) => Some(placed_step(core, step)),
     }
-    Ok(Text { string })
 }
 
 /// One of some candidates, by its number from 1.
-fn target_at(
-    alloc: Global,
-    core: &Core<'_>,
-    candidates: &[Step],
-    number: usize,
-) -> Result<Target, AllocError>
-    ensures { IfOk result (λ target. target ≡ spec.target_at core.now.program core.now.world candidates.now number) }
+fn candidate_at(core: &Core<'_>, candidates: &[Step], number: usize) -> Candidate
+    ensures { result ≡ spec.candidate_at core.now.program core.now.world candidates.now number }
 {
     let step = candidates.get(number.saturating_sub(1)).copied();
-    let label = label(alloc, core, step)?;
-    Ok(Target { id: number, label })
+    Candidate {
+        number,
+        step: placed_if(core, step),
+    }
 }
 
-/// Those of some candidates in which a rank takes part, by their numbers.
-fn targets_at(
+/// Those of some candidates that have these numbers.
+fn candidates_at(
     alloc: Global,
     core: &Core<'_>,
     candidates: &[Step],
     numbers: &[usize],
-) -> Result<Vec<Target>, AllocError>
-    ensures { IfOk result (λ list. list.items ≡ map (spec.target_at core.now.program core.now.world candidates.now) numbers.now) }
+) -> Result<Vec<Candidate>, AllocError>
+    ensures { IfOk result (λ list. list.items ≡ map (spec.candidate_at core.now.program core.now.world candidates.now) numbers.now) }
 {
     let mut list = Vec::new(alloc);
     for number in numbers {
-        list.push(target_at(alloc, core, candidates, *number)?)?;
+        list.push(candidate_at(core, candidates, *number))?;
+    }
+    Ok(list)
+}
+
+/// The candidates that are open and in which a rank takes part.
+fn candidates_of(
+    alloc: Global,
+    core: &Core<'_>,
+    rank: usize,
+) -> Result<Vec<Candidate>, AllocError>
+    ensures { IfOk result (λ list. list.items ≡ spec.candidates_of core.now.program core.now.world rank) }
+{
+    let decided = decide(alloc, core)?;
+    let candidates = open_among(&decided);
+    let numbers = own_among(alloc, rank, candidates)?;
+    candidates_at(alloc, core, candidates, &numbers)
+}
+
+/// What the word `enabled` of the console tells of a candidate, if it is there.
+fn label(alloc: Global, decls: &[Decl], candidate: Candidate) -> Result<Text, AllocError> {
+    let mut string = String::new(alloc);
+    if let Some(step) = candidate.step {
+        push_candidate(&mut string, decls, false, &step)?;
+    }
+    Ok(Text { string })
+}
+
+/// A candidate as a target.
+fn target(alloc: Global, decls: &[Decl], candidate: Candidate) -> Result<Target, AllocError>
+    ensures { IfOk result (λ target. target.id ≡ candidate.number) }
+{
+    let label = label(alloc, decls, candidate)?;
+    Ok(Target {
+        id: candidate.number,
+        label,
+    })
+}
+
+/// Candidates as targets.
+fn targets_of(
+    alloc: Global,
+    decls: &[Decl],
+    candidates: &[Candidate],
+) -> Result<Vec<Target>, AllocError>
+    ensures { IfOk result (λ list. map spec.target_id list.items ≡ map spec.candidate_number candidates.now) }
+{
+    let mut list = Vec::new(alloc);
+    for candidate in candidates {
+        list.push(target(alloc, decls, *candidate)?)?;
     }
     Ok(list)
 }
 
 /// The body that lists the candidates that are open and in which a rank takes part.
+#[tactic(auto, using(crate::proofs::LookLemmas::targets_so))]
 fn targets_body(alloc: Global, core: &Core<'_>, rank: usize) -> Result<Json, AllocError>
-    ensures { IfOk result (λ body. view body.value ≡ spec.targets_body core.now.program core.now.world rank) }
+    ensures { IfOk result (λ body. spec.IsTargets core.now.program core.now.world rank (view body.value)) }
 {
-    let decided = decide(alloc, core)?;
-    let candidates = open_among(&decided);
-    let numbers = own_among(alloc, rank, candidates)?;
-    let list = targets_at(alloc, core, candidates, &numbers)?;
-    targets(alloc, &list)
+    let candidates = candidates_of(alloc, core, rank)?;
+    let list = targets_of(alloc, core.code().decls(), &candidates)?;
+    let body = targets(alloc, &list)?;
+    Ok(body)
+}
+
+// ---- how a run has ended
+
+/// How a run has ended, in a word.
+fn end_name(outcome: &Outcome) -> &'static str
+    ensures { result.now ≡ spec.end_name outcome.now }
+{
+    match outcome {
+        Outcome::Done => "done",
+        Outcome::Leftovers(_) => "leftovers",
+        Outcome::Deadlock(_) => "deadlock",
+        Outcome::Trap(_) => "trap",
+    }
 }
 
 /// What is told of how a run has ended.
-fn end_text(alloc: Global, core: &Core<'_>, outcome: Outcome) -> Result<Text, AllocError>
-    ensures { IfOk result (λ text. text ≡ spec.end_text core.now.program core.now.world outcome) }
-{
+fn end_words(alloc: Global, decls: &[Decl], end: &End) -> Result<Text, AllocError> {
     let mut string = String::new(alloc);
-    push_told(alloc, core, &mut string, &Ending::Ended(outcome))?;
+    push_end(&mut string, decls, end)?;
     Ok(Text { string })
 }
 
 /// The body that tells how a run has ended.
-fn end_body(alloc: Global, core: &Core<'_>, outcome: Outcome) -> Result<Json, AllocError>
-    ensures { IfOk result (λ body. view body.value ≡ spec.end_body core.now.program core.now.world outcome) }
+#[tactic(auto, using(crate::proofs::LookLemmas::end_so))]
+fn end_body(alloc: Global, core: &Core<'_>, outcome: &Outcome) -> Result<Json, AllocError>
+    ensures { IfOk result (λ body. spec.IsEnd outcome.now (view body.value)) }
 {
-    let name = end_name(&outcome);
-    let told = end_text(alloc, core, outcome)?;
-    exception(alloc, name, told.as_str())
+    let end = outcome_end(alloc, core, outcome)?;
+    let told = end_words(alloc, core.code().decls(), &end);
+    drop(end);
+    let told = told?;
+    let body = exception(alloc, end_name(outcome), told.as_str())?;
+    Ok(body)
 }
 
 /// The body that tells how the run has ended; `None` if it hasn't.
 fn exception_body(alloc: Global, core: &Core<'_>) -> Result<Option<Json>, AllocError>
-    ensures { IfOk result (λ body. spec.IsBody body (spec.exception_body core.now.program core.now.world (decision core.now.world))) }
+    ensures { IfOk result (λ body. spec.IsException (decision core.now.world) (spec.shown body)) }
 {
     match decide(alloc, core)? {
-        Decision::Leaf(outcome) => Ok(Some(end_body(alloc, core, outcome)?)),
+        Decision::Leaf(outcome) => {
+            let body = end_body(alloc, core, &outcome)?;
+            Ok(Some(body))
+        }
         _ => Ok(None),
     }
 }
 
+// ---- any look
+
 /// What a look tells of any state, given the path of the script. An `Err` is want of memory.
 fn plain_body(alloc: Global, core: &Core<'_>, path: &str, look: Look) -> Result<Json, AllocError>
-    ensures { IfOk result (λ body. view body.value ≡ spec.plain_body core.now.program core.now.world path.now look) }
+    ensures { IfOk result (λ body. spec.IsPlain core.now.program core.now.world path.now look (view body.value)) }
 {
     match look {
         Look::Capabilities => capabilities(alloc),
@@ -194,7 +302,7 @@ fn body_at(
     path: &str,
     look: Look,
 ) -> Result<Option<Json>, AllocError>
-    ensures { IfOk result (λ body. spec.IsBody body (spec.body_at core.now.program core.now.world path.now look)) }
+    ensures { IfOk result (λ body. spec.IsBodyAt core.now.program core.now.world path.now look (spec.shown body)) }
 {
     match look {
         Look::Exception => exception_body(alloc, core),
@@ -211,7 +319,7 @@ pub(crate) fn body_in(
     path: &str,
     look: Look,
 ) -> Result<Option<Json>, AllocError>
-    ensures { IfOk result (λ body. spec.IsBody body (spec.body_in session.now path.now look)) }
+    ensures { IfOk result (λ body. spec.IsBodyIn session.now path.now look (spec.shown body)) }
 {
     let debugger = session.debugger();
     debugger.state_is_reached();

@@ -1,22 +1,36 @@
 //! A rank, as the word `ranks` of the console tells it.
 
-ghost use Rattle.std.specs.Prelude.{◌≡◌, ◌++◌, OnOk, string_bytes};
-ghost use Rattle.mpd_adapter.specs.Looks.{rank_doing};
+ghost use Rattle.std.specs.Prelude.{◌≡◌};
+ghost use Rattle.mpd_adapter.specs.Looks as spec;
 
 use mpd_core::Core;
-use mpd_names::stands;
-use std::alloc::AllocError;
+use mpd_names::{Stands, stands};
+use std::fmt;
 
-/// Adds a rank, from 0, and what it is doing. An `Err` is want of memory.
-pub(crate) fn push_rank_doing(
-    core: &Core<'_>,
-    out: &mut String,
-    rank: usize,
-) -> Result<(), AllocError>
-    ensures { OnOk result (string_bytes out.new ≡ string_bytes out.old ++ rank_doing core.now.program core.now.world rank) }
+/// A rank and what it is doing. Its words are `rank 0 waits at line 9, 0.1 recv from 1 tag 7`.
+#[derive(Clone, Copy)]
+pub struct RankDoing {
+    /// Which rank, from 0.
+    pub rank: usize,
+    /// Where it stands, if it is there.
+    pub stands: Option<Stands>,
+}
+
+impl fmt::Display for RankDoing {
+    fn fmt<W: fmt::Write>(&self, f: &mut fmt::Formatter<W>) -> fmt::Result {
+        match self.stands {
+            None => write!(f, "rank {}", self.rank),
+            Some(stands) => write!(f, "rank {}{stands}", self.rank),
+        }
+    }
+}
+
+/// What a rank, from 0, is doing.
+pub(crate) fn rank_doing(core: &Core<'_>, rank: usize) -> RankDoing
+    ensures { result ≡ spec.rank_doing core.now.program core.now.world rank }
 {
-    match stands(core, rank) {
-        None => write!(out, "rank {rank}"),
-        Some(stands) => write!(out, "rank {rank}{stands}"),
+    RankDoing {
+        rank,
+        stands: stands(core, rank),
     }
 }

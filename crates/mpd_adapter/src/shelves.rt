@@ -1,21 +1,46 @@
 //! What a rank holds, as an editor shows it (docs/ADAPTER.md, "Looks").
 
-ghost use Rattle.std.specs.Prelude.{◌≡◌, ◌<◌, IfOk, length, slice_get, string_bytes};
+ghost use Rattle.std.specs.Prelude.{◌≡◌, ◌<◌, ◌++◌, IfOk, OnOk, length, slice_get, string_bytes};
 ghost use Rattle.mpd_adapter.specs.Shelves as spec;
 
 use crate::numbers::Scope;
 use mpd_core::Core;
 use mpd_dap::{Text, Variable};
 use mpd_model::{CallId, Decl, DeclKind};
-use mpd_names::push_cell_name;
+use mpd_names::{NamedCell, named_cell};
 use std::alloc::{AllocError, Global};
 
-/// The name of a cell.
+/// Adds the index of a cell, if it is one of an array.
+fn push_index(out: &mut String, size: Option<usize>, index: usize) -> Result<(), AllocError>
+    ensures { OnOk result (string_bytes out.new ≡ string_bytes out.old ++ spec.index_text size index) }
+{
+    match size {
+        None => Ok(()),
+        Some(_) => write!(out, "[{index}]"),
+    }
+}
+
+/// Adds the name of the cell of an index of a declaration, if there is one.
+fn push_element(out: &mut String, decls: &[Decl], cell: NamedCell) -> Result<(), AllocError>
+    ensures { OnOk result (string_bytes out.new ≡ string_bytes out.old ++ spec.element_text (slice_get decls.now cell.declaration) cell.index) }
+{
+    match decls.get(cell.declaration) {
+        None => Ok(()),
+        Some(decl) => {
+            out.push_str(&decl.name)?;
+            push_index(out, decl.size, cell.index)
+        }
+    }
+}
+
+/// The name of a cell; empty if there is none.
 fn cell_text(alloc: Global, decls: &[Decl], kind: DeclKind, cell: usize) -> Result<Text, AllocError>
     ensures { IfOk result (λ text. text ≡ spec.cell_text decls.now kind cell) }
 {
     let mut string = String::new(alloc);
-    push_cell_name(&mut string, decls, kind, cell)?;
+    if let Some(named) = named_cell(decls, kind, cell) {
+        push_element(&mut string, decls, named)?;
+    }
     Ok(Text { string })
 }
 

@@ -6,3 +6,4 @@ pub mod OnwardLemmas
 pub mod MoveLemmas
 pub mod NewsLemmas
 pub mod QuitLemmas
+pub mod ElsewhereLemmas

@@ -8,58 +8,19 @@ use Rattle.mpd_model.specs.declared.step.Step.{Step}
 use Rattle.mpd_model.specs.script.Declaration.{Declared}
 use Rattle.mpd_model.specs.script.Program.{Program}
 use Rattle.mpd_model.specs.runs.Breakpoints.{break_at}
-use Rattle.mpd_names.specs.Called.{break_text}
 use Rattle.mpd_session.specs.declared.request.Command.{Command}
 use Rattle.mpd_session.specs.declared.request.Command.TheVariants as command
 use Rattle.mpd_session.specs.declared.reply.Reply.{Reply}
 use Rattle.mpd_session.specs.declared.reply.Reply.TheVariants as reply
 use Rattle.mpd_session.specs.Held.{Held}
 use Rattle.mpd_session.specs.Respond.{respond}
-use Rattle.mpd_vocabulary.specs.declared.word.Word.{Word}
-use Rattle.mpd_vocabulary.specs.declared.word.Word.TheVariants as word
-use Rattle.mpd_vocabulary.specs.declared.read.Line.{Line}
-use Rattle.mpd_vocabulary.specs.declared.read.Line.TheVariants.{Says}
-use Rattle.mpd_vocabulary.specs.Reading.{line_of}
 use Rattle.mpd_console.specs.declared.told.First.{First}
 use Rattle.mpd_console.specs.declared.told.First.TheVariants as first
 use Rattle.mpd_console.specs.declared.told.Numbered.{Numbered}
+use Rattle.mpd_console.specs.Elsewhere.{break_again}
 use Rattle.mpd_console.specs.Says.{asking}
 
 -- ---- breakpoints, as the script that is read again has their names
-
--- the breakpoint that a word sets
-abbrev pub break_in : Word → Option Breakpoint
-break_in (word.Break b) = Some b
-break_in other = None
-
-abbrev pub break_of : Line → Option Breakpoint
-break_of (Says x) = break_in x
-break_of other = None
-
--- the rank that a breakpoint is about
-abbrev pub rank_meant : Breakpoint → Option ℕ
-rank_meant (on.Line n of when) = of
-rank_meant (on.Match n of) = of
-rank_meant (on.Rank p) = Some p
-rank_meant (on.Change p c) = Some p
-rank_meant (on.Handle p h) = Some p
-
-abbrev pub is_below : ℕ → Option ℕ → Bool
-is_below ranks None = true
-is_below ranks (Some p) = nat_lt p ranks
-
--- one of a rank that isn't there is none
-abbrev pub with_rank : ℕ → Option Breakpoint → Option Breakpoint
-with_rank ranks None = None
-with_rank ranks (Some b) = if is_below ranks (rank_meant b) then Some b else None
-
--- the line that sets a breakpoint, by the names of a script
-abbrev pub break_words : List Declared → Breakpoint → List ℕ
-break_words ds b = codes "break " ++ break_text ds b
-
--- A breakpoint of one script is, in another, the one that the line sets there that sets it here; or none.
-abbrev pub break_again : List Declared → Program → Breakpoint → Option Breakpoint
-break_again ds s b = with_rank s.ranks (break_of (line_of s.decls (break_words ds b)))
 
 abbrev pub place_again : List Declared → Program → Option Breakpoint → Option Breakpoint
 place_again ds s p = option_and_then (break_again ds s) p

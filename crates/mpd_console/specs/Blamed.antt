@@ -12,7 +12,9 @@ use Rattle.mpd_runs.specs.declared.listing.TheConstants.{FUEL}
 use Rattle.mpd_runs.specs.declared.states.TheConstants.{STATES_VISITED}
 use Rattle.mpd_blame.specs.declared.back.Blame.{Blame}
 use Rattle.mpd_blame.specs.declared.back.Blame.TheVariants as blame_is
+use Rattle.mpd_blame.specs.declared.told.PlacedBlame.{PlacedBlame}
 use Rattle.mpd_blame.specs.Blame.{IsBlame, IsThere}
+use Rattle.mpd_blame.specs.Told.{placed_blame}
 
 -- how many steps a run has at most, from the start, where so many are kept
 abbrev pub kept_limit : ℕ → ℕ
@@ -49,9 +51,10 @@ number_for w b = None
 
 -- ---- both
 
--- where it was decided how the kept run ends, and the number with which another way is taken there
-pub record IsBlamed (t : Trail) (b : Blame) (n : Option ℕ) : Type 0 where
-  pub is : IsBlame STATES_VISITED (kept_limit (length t.steps)) (start t.program t.mode) t.steps b
+-- where it was decided how the kept run ends, with the step that did, and the number with which another way is taken there
+pub record IsBlamed (t : Trail) (b : PlacedBlame) (n : Option ℕ) : Type 0 where
+  pub is : IsBlame STATES_VISITED (kept_limit (length t.steps)) (start t.program t.mode) t.steps b.blame
   pub world : World
-  pub there : IsThere (start t.program t.mode) t.steps b world
-  pub number : n ≡ number_for world b
+  pub there : IsThere (start t.program t.mode) t.steps b.blame world
+  pub placed : b ≡ placed_blame t.program world b.blame
+  pub number : n ≡ number_for world b.blame

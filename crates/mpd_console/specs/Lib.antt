@@ -1,6 +1,7 @@
 pub mod Looks
 pub mod Blamed
 pub mod Says
+pub mod Elsewhere
 pub mod Again
 pub mod Quitting
 pub mod News

@@ -37,6 +37,7 @@ use Rattle.mpd_runs.specs.Seek.{found_run, numbered_run, counts_in, LeadsTo, Lie
 use Rattle.mpd_runs.specs.LastChoice.{last_choice}
 use Rattle.mpd_blame.specs.declared.back.Blame.{Blame}
 use Rattle.mpd_blame.specs.declared.back.Blame.TheVariants as blame_is
+use Rattle.mpd_blame.specs.declared.told.PlacedBlame.{PlacedBlame}
 use Rattle.mpd_console.specs.declared.prompts.Look.{Look}
 use Rattle.mpd_console.specs.declared.lead.Lead.{Lead}
 use Rattle.mpd_console.specs.declared.moves.Doing.{Doing}
@@ -143,23 +144,23 @@ FollowedBy s n None o t = (t ≡ s) × (o ≡ Some told.NoRun)
 FollowedBy s n (Some r) o t = LaidBy s (Some n) r o t
 
 -- what is told of the step that decided, and of what going to it came to
-abbrev pub blamed_by : Blame → Option ℕ → Carried → Told
+abbrev pub blamed_by : PlacedBlame → Option ℕ → Carried → Told
 blamed_by b n k = told.Blamed (record { blame = b; number = n; gone = Some k })
 
 -- and where it isn't known which step it is
-abbrev pub blamed_alone : Blame → Option ℕ → Told
+abbrev pub blamed_alone : PlacedBlame → Option ℕ → Told
 blamed_alone b n = told.Blamed (record { blame = b; number = n; gone = None })
 
 -- It is gone to, as `goto` goes there; or where it isn't known which step it is, that is told.
-abbrev pub BlamedAs : Held → Blame → Option ℕ → Option Told → Held → Type 0
-BlamedAs s (blame_is.At d) n o t =
+abbrev pub BlamedAs : Held → PlacedBlame → Option ℕ → Blame → Option Told → Held → Type 0
+BlamedAs s b n (blame_is.At d) o t =
     (t ≡ (respond s (asking (goto_command s.trail d.depth))).1)
-    × IfSome o (λ k. k ≡ blamed_by (blame_is.At d) n (carried_of s (word.Goto d.depth) (goto_command s.trail d.depth) t))
-BlamedAs s b n o t = (t ≡ s) × (o ≡ Some (blamed_alone b n))
+    × IfSome o (λ k. k ≡ blamed_by b n (carried_of s (word.Goto d.depth) (goto_command s.trail d.depth) t))
+BlamedAs s b n c o t = (t ≡ s) × (o ≡ Some (blamed_alone b n))
 
 -- It is told of the run that is kept.
 abbrev pub BlamedBy : Held → Option Told → Held → Type 0
-BlamedBy s o t = (b : Blame) × (n : Option ℕ) × IsBlamed s.trail b n × BlamedAs s b n o t
+BlamedBy s o t = (b : PlacedBlame) × (n : Option ℕ) × IsBlamed s.trail b n × BlamedAs s b n b.blame o t
 
 -- what a word looks at
 abbrev pub sight_at : Trail → Word → Option World → Sight

@@ -9,17 +9,16 @@ ghost use Rattle.mpd_console.specs.Again as spec;
 ghost use Rattle.mpd_console.specs.Says as says;
 
 use crate::desk::{ConsoleDesk, Screen};
+use crate::elsewhere::break_again;
 use crate::opening::Opened;
 use crate::prompts::{laid_out, marked_bytes, prompt_in};
 use crate::saying::{push_break_line, push_where};
 use crate::told::{First, Numbered, NumberedList};
 use mpd_code::{Code, Subject};
 use mpd_model::{BREAKS_MAX, Breakpoint, ReadFault, Step};
-use mpd_names::push_break;
 use mpd_policy::Breaks;
 use mpd_runs::push_count;
 use mpd_session::{Command, Reply, Request, Session};
-use mpd_vocabulary::{Line, Word, line_of};
 use std::alloc::{AllocError, Global};
 
 /// What is kept of a console while its script is read again.
@@ -36,84 +35,13 @@ pub struct Kept {
     words: Vec<u8>,
 }
 
-/// The breakpoint that a line sets.
-fn break_of(line: Line) -> Option<Breakpoint>
-    ensures { result ≡ spec.break_of line }
-{
-    match line {
-        Line::Says(Word::Break(stop)) => Some(stop),
-        _ => None,
-    }
-}
-
-/// The rank that a breakpoint is about, if it is of one.
-fn rank_meant(stop: Breakpoint) -> Option<usize>
-    ensures { result ≡ spec.rank_meant stop }
-{
-    match stop {
-        Breakpoint::Line { of, .. } | Breakpoint::Match { of, .. } => of,
-        Breakpoint::Rank(rank) => Some(rank),
-        Breakpoint::Change { rank, .. } | Breakpoint::Handle { rank, .. } => Some(rank),
-    }
-}
-
-/// Whether a rank is there, or none is meant.
-fn is_below(ranks: usize, rank: Option<usize>) -> bool
-    ensures { result ≡ spec.is_below ranks rank }
-{
-    match rank {
-        None => true,
-        Some(rank) => rank < ranks,
-    }
-}
-
-/// A breakpoint, if its rank is there.
-fn with_rank(ranks: usize, stop: Option<Breakpoint>) -> Option<Breakpoint>
-    ensures { result ≡ spec.with_rank ranks stop }
-{
-    match stop {
-        Some(stop) if is_below(ranks, rank_meant(stop)) => Some(stop),
-        _ => None,
-    }
-}
-
-/// The line that sets a breakpoint, by the names of a script.
-fn break_words(alloc: Global, code: &Code, stop: Breakpoint) -> Result<String, AllocError>
-    ensures { IfOk result (λ t. string_bytes t ≡ spec.break_words code.now.program.decls stop) }
-{
-    let mut words = String::new(alloc);
-    words.push_str("break ")?;
-    push_break(&mut words, code.decls(), stop)?;
-    Ok(words)
-}
-
-/// The breakpoint of another script that a breakpoint of a script is: the one that the same line sets there, if it can be set.
-fn break_again(
-    alloc: Global,
-    old: &Code,
-    new: &Code,
-    stop: Breakpoint,
-) -> Result<Option<Breakpoint>, AllocError>
-    ensures { IfOk result (λ o. o ≡ spec.break_again old.now.program.decls new.now.program stop) }
-{
-    let words = break_words(alloc, old, stop)?;
-    let line = line_of(new, words.as_bytes());
-    Ok(with_rank(new.ranks(), break_of(line)))
-}
-
-/// The same of the breakpoint of a place.
-fn place_again(
-    alloc: Global,
-    old: &Code,
-    new: &Code,
-    breaks: &Breaks,
-    number: usize,
-) -> Result<Option<Breakpoint>, AllocError>
-    ensures { IfOk result (λ o. o ≡ spec.place_again old.now.program.decls new.now.program (break_at breaks.now number)) }
+/// What the breakpoint of a place is in another script, if it has it.
+fn place_again(old: &Code, new: &Code, breaks: &Breaks, number: usize) -> Option<Breakpoint>
+    ensures { result ≡ spec.place_again old.now.program.decls new.now.program (break_at breaks.now number) }
 {
     match breaks.breakpoint(number) {
-        None => Ok(None),
-        Some(stop) => break_again(alloc, old, new, stop),
+        None => None,
+        Some(stop) => break_again(old, new, stop),
     }
 }
 
@@ -128,7 +56,7 @@ fn places_again(
 {
     let mut places = Vec::new(alloc);
     for number in 0..BREAKS_MAX {
-        let place = place_again(alloc, old, new, breaks, number)?;
+        let place = place_again(old, new, breaks, number);
         places.push(place)?;
     }
     Ok(places)
@@ -136,7 +64,6 @@ fn places_again(
 
 /// Adds the breakpoint of a place if it can't be set in the other script.
 fn push_lost(
-    alloc: Global,
     list: &mut Vec<Numbered>,
     old: &Code,
     new: &Code,
@@ -148,7 +75,7 @@ fn push_lost(
     let Some(stop) = breaks.breakpoint(number) else {
         return Ok(());
     };
-    if break_again(alloc, old, new, stop)?.is_none() {
+    if break_again(old, new, stop).is_none() {
         list.push(Numbered { number, stop })?;
     }
     Ok(())
@@ -165,7 +92,7 @@ fn lost_again(
 {
     let mut list = Vec::new(alloc);
     for number in 0..BREAKS_MAX {
-        push_lost(alloc, &mut list, old, new, breaks, number)?;
+        push_lost(&mut list, old, new, breaks, number)?;
     }
     Ok(list)
 }

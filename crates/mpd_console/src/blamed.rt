@@ -7,8 +7,7 @@ ghost use Rattle.mpd_model.specs.runs.Trail.{step_eq};
 ghost use Rattle.mpd_console.specs.Blamed as way;
 ghost use Rattle.mpd_console.specs.Blamed.{kept_limit, IsBlamed, IsWhole};
 
-use crate::saying::blame_words;
-use mpd_blame::{Blame, blame_run};
+use mpd_blame::{Blame, PlacedBlame, blame_run, place_blame};
 use mpd_core::Core;
 use mpd_explore::Witnesses;
 use mpd_model::{Decision, STEPS_MAX, Step};
@@ -20,13 +19,11 @@ use mpd_trail::Debugger;
 use std::alloc::{AllocError, Global};
 
 /// Where it was decided how the kept run ends.
-#[derive(Drop)]
+#[derive(Clone, Copy)]
 pub(crate) struct Decider {
-    pub(crate) blame: Blame,
+    pub(crate) blame: PlacedBlame,
     /// The number from 1 with which `next` takes the other step there, if it has one.
     pub(crate) number: Option<usize>,
-    /// Both in words, which are of the state there.
-    pub(crate) words: String,
 }
 
 /// How many steps a run has at most, from the start, if `kept` are kept.
@@ -133,9 +130,8 @@ fn decider_of(alloc: Global, whole: &mut Debugger<'_>) -> Result<Decider, AllocE
     let blame = blame_run(alloc, whole, limits)?;
     let number = number_for(alloc, whole.core(), blame)?;
     Ok(Decider {
-        blame,
+        blame: place_blame(whole.core(), blame),
         number,
-        words: blame_words(alloc, whole.core(), blame, number)?,
     })
 }
 

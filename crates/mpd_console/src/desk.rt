@@ -254,8 +254,7 @@ impl<'c, 't> ConsoleDesk<'c, 't> {
         let Some(told) = &done.told else {
             return add_line(UNPRINTED, out);
         };
-        let words = done.words.as_str();
-        let text = told_bytes(alloc, &self.session, self.screen, told, words);
+        let text = told_bytes(alloc, &self.session, self.screen, told, done.step);
         add(text, otherwise(told), out)
     }
 

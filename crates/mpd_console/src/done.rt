@@ -1,6 +1,7 @@
 //! What a word does with a session: what it did, and the session after it (docs/CONSOLE.md).
 
 ghost use Rattle.std.specs.Prelude.{◌≡◌, Some, IfOk, IfSome, OnOk, OnErr, option_map};
+ghost use Rattle.mpd_explain.specs.Steps.{placed_step_of};
 ghost use Rattle.mpd_runs.specs.LastChoice.{last_choice as last_choice_of};
 ghost use Rattle.mpd_session.specs.Respond.{respond};
 ghost use Rattle.mpd_console.specs.declared.told.Told.TheVariants as told;
@@ -13,9 +14,11 @@ use crate::found::{follow, last_choice_in, seek};
 use crate::lead::{Lead, lead_of};
 use crate::looks::sight_of;
 use crate::moves::{Doing, doing_of, goto_command};
-use crate::saying::step_words;
 use crate::told::{Blamed, Carried, Sight, Told};
-use mpd_blame::{Blame, Decided};
+use mpd_blame::{Blame, Decided, PlacedBlame};
+use mpd_core::Core;
+use mpd_explain::{PlacedStep, placed_step};
+use mpd_model::Step;
 use mpd_session::{Command, Request, Session};
 use mpd_vocabulary::Word;
 use std::alloc::{AllocError, Global};
@@ -25,8 +28,8 @@ use std::alloc::{AllocError, Global};
 pub struct Done {
     /// What it did; none if memory for that was refused.
     pub told: Option<Told>,
-    /// What was said of the state before it: of the step that it took, or of the one that decided.
-    pub(crate) words: String,
+    /// The step that it took, on the state before it; none if it took none that is known.
+    pub(crate) step: Option<PlacedStep>,
 }
 
 /// A request that is done.
@@ -34,8 +37,8 @@ pub struct Done {
 struct Reached {
     /// What it came to; none if memory for that was refused.
     carried: Option<Carried>,
-    /// The step that it took, in words; empty if it took none that is known.
-    words: String,
+    /// The step that it took, on the state before it; none if it took none that is known.
+    step: Option<PlacedStep>,
 }
 
 /// What is known of a word before it is done.
@@ -46,6 +49,16 @@ fn lead_in(alloc: Global, session: &Session<'_>, word: Word) -> Result<Lead, All
     let debugger = session.debugger();
     debugger.state_is_reached();
     lead_of(alloc, debugger, word)
+}
+
+/// A step with what it is about, if there is one.
+fn placed_if(core: &Core<'_>, step: Option<Step>) -> Option<PlacedStep>
+    ensures { result ≡ option_map (placed_step_of core.now.program core.now.world) step }
+{
+    match step {
+        None => None,
+        Some(step) => Some(placed_step(core, step)),
+    }
 }
 
 /// Asks the session, and tells what that came to. An `Err` is want of memory, and then nothing has
@@ -62,17 +75,17 @@ fn carry_out(
     ensures err { OnErr result (session.new ≡ session.old) }
 {
     let lead = lead_in(alloc, session, word)?;
-    let words = step_words(alloc, session, lead.step)?;
+    let step = placed_if(session.debugger().core(), lead.step);
     let request = Request { command, at: None };
     let reply = session.answer(alloc, &request)?;
     match carried_by(alloc, session, lead, &reply) {
         Ok(carried) => Ok(Reached {
             carried: Some(carried),
-            words,
+            step,
         }),
         Err(_) => Ok(Reached {
             carried: None,
-            words,
+            step,
         }),
     }
 }
@@ -98,20 +111,20 @@ fn ask(
     ensures done { IfOk result (λ d. CarriedBy session.old word command d.told session.new) }
     ensures err { OnErr result (session.new ≡ session.old) }
 {
-    let Reached { carried, words } = carry_out(alloc, session, word, command)?;
+    let Reached { carried, step } = carry_out(alloc, session, word, command)?;
     Ok(Done {
         told: told_by(carried),
-        words,
+        step,
     })
 }
 
-/// A word of which this is told, and nothing was said of the state before it.
-fn plain(alloc: Global, told: Told) -> Done
+/// A word of which this is told, and which took no step that is known.
+fn plain(told: Told) -> Done
     ensures { result.told ≡ Some told }
 {
     Done {
         told: Some(told),
-        words: String::new(alloc),
+        step: None,
     }
 }
 
@@ -123,12 +136,12 @@ fn undo_choice(alloc: Global, session: &mut Session<'_>, word: Word) -> Result<D
 {
     match last_choice_in(alloc, session)? {
         Some(depth) => ask(alloc, session, word, Command::Goto(depth)),
-        None => Ok(plain(alloc, Told::NoChoice)),
+        None => Ok(plain(Told::NoChoice)),
     }
 }
 
 /// What is told of the step that decided, and of what going to it came to.
-fn blamed_by(blame: Blame, number: Option<usize>, carried: Option<Carried>) -> Option<Told>
+fn blamed_by(blame: PlacedBlame, number: Option<usize>, carried: Option<Carried>) -> Option<Told>
     ensures { result ≡ option_map (spec.blamed_by blame number) carried }
 {
     match carried {
@@ -147,24 +160,24 @@ fn blamed_by(blame: Blame, number: Option<usize>, carried: Option<Carried>) -> O
 fn go_there(
     alloc: Global,
     session: &mut Session<'_>,
+    blame: PlacedBlame,
     decided: Decided,
     number: Option<usize>,
-    words: String,
 ) -> Result<Done, AllocError>
-    ensures gone { IfOk result (λ d. BlamedAs session.old (Blame.At decided) number d.told session.new) }
+    ensures gone { IfOk result (λ d. BlamedAs session.old blame number (Blame.At decided) d.told session.new) }
     ensures err { OnErr result (session.new ≡ session.old) }
 {
     let depth = decided.depth;
     let command = goto_command(session.debugger(), depth);
     let reached = carry_out(alloc, session, Word::Goto(depth), command)?;
     Ok(Done {
-        told: blamed_by(Blame::At(decided), number, reached.carried),
-        words,
+        told: blamed_by(blame, number, reached.carried),
+        step: None,
     })
 }
 
 /// Tells that it is not known by which step it was decided, or that it isn't decided.
-fn stay(blame: Blame, number: Option<usize>, words: String) -> Done
+fn stay(blame: PlacedBlame, number: Option<usize>) -> Done
     ensures { result.told ≡ Some (spec.blamed_alone blame number) }
 {
     Done {
@@ -173,7 +186,7 @@ fn stay(blame: Blame, number: Option<usize>, words: String) -> Done
             number,
             gone: None,
         })),
-        words,
+        step: None,
     }
 }
 
@@ -184,15 +197,11 @@ fn blame(alloc: Global, session: &mut Session<'_>) -> Result<Done, AllocError>
     ensures blamed { IfOk result (λ d. BlamedBy session.old d.told session.new) }
     ensures err { OnErr result (session.new ≡ session.old) }
 {
-    let Decider {
-        blame,
-        number,
-        words,
-    } = decider_in(alloc, session)?;
-    match blame {
-        Blame::At(decided) => go_there(alloc, session, decided, number, words),
+    let Decider { blame, number } = decider_in(alloc, session)?;
+    match blame.blame {
+        Blame::At(decided) => go_there(alloc, session, blame, decided, number),
         Blame::FromStart | Blame::OrEarlier(_) | Blame::Open | Blame::Unknown => {
-            Ok(stay(blame, number, words))
+            Ok(stay(blame, number))
         }
     }
 }
@@ -230,9 +239,9 @@ pub(crate) fn perform(
     match doing_in(alloc, session, word)? {
         Doing::Asks(command) => ask(alloc, session, word, command),
         Doing::Undoes => undo_choice(alloc, session, word),
-        Doing::Seeks(way) => Ok(plain(alloc, seek(alloc, session, way)?)),
-        Doing::Follows(number) => Ok(plain(alloc, follow(alloc, session, number)?)),
+        Doing::Seeks(way) => Ok(plain(seek(alloc, session, way)?)),
+        Doing::Follows(number) => Ok(plain(follow(alloc, session, number)?)),
         Doing::Blames => blame(alloc, session),
-        Doing::Looks => Ok(plain(alloc, Told::Looks(sight_in(session, word)))),
+        Doing::Looks => Ok(plain(Told::Looks(sight_in(session, word)))),
     }
 }

@@ -7,6 +7,7 @@ mod blamed;
 mod carried;
 pub mod desk;
 pub mod done;
+mod elsewhere;
 mod found;
 mod held;
 pub mod lead;

@@ -8,8 +8,8 @@ use crate::saying::push_break_line;
 use crate::told::{Numbered, Sight};
 use mpd_core::Core;
 use mpd_explain::{
-    push_calls, push_enabled, push_history, push_lost, push_queues, push_ranks, push_why,
-    push_why_rank, push_why_ranks, push_words,
+    losses_of, push_calls, push_enabled, push_history, push_losses, push_queues, push_ranks,
+    push_why, push_why_rank, push_why_ranks, push_words,
 };
 use mpd_model::{BREAKS_MAX, CallId, Decl};
 use mpd_names::{Named, push_list, push_list_about, push_named, push_variables};
@@ -153,7 +153,8 @@ fn push_print(
 /// Adds the variables and requests of a rank, what it has printed, and its requests that are lost.
 fn push_vars_of(core: &Core<'_>, out: &mut String, rank: usize) -> Result<(), AllocError> {
     push_variables(core, out, rank)?;
-    push_lost(core, out, rank)
+    let lost = losses_of(*out.allocator(), core, rank)?;
+    push_losses(out, &lost)
 }
 
 /// Adds that of all ranks, or of one.
@@ -208,7 +209,7 @@ pub(crate) fn push_sight(
         Sight::Queues => push_queues(core, out),
         Sight::WhyCall(call) => push_why(alloc, core, out, call),
         Sight::Why(rank) => push_why_of(alloc, core, out, rank),
-        Sight::History(count) => push_history(debugger, out, count),
+        Sight::History(count) => push_history(alloc, debugger, out, count),
         Sight::Picture => push_picture(debugger, out),
         Sight::Runs(runs) => push_runs(alloc, debugger, out, runs),
         Sight::Words => push_words(debugger, out),

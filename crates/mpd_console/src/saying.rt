@@ -4,54 +4,18 @@
 use crate::desk::Screen;
 use crate::looks::push_sight;
 use crate::prompts::{laid_out, marked_bytes, prompt_in, push_prompt};
-use crate::told::{Carried, Laid, Moved, News, Numbered, Printed, Sight, Stopped, Told, Went, Why};
-use mpd_blame::{Blame, push_blame};
+use crate::told::{Blamed, Carried, Laid, Moved, News, Numbered, Printed, Sight, Stopped, Told, Went, Why};
+use mpd_blame::Blame;
 use mpd_core::Core;
-use mpd_explain::{push_lost_told, push_standing, push_step};
+use mpd_explain::{PlacedStep, losses, position_of, push_losses, push_position};
 use mpd_lines::push_folded_at;
-use mpd_model::{Breakpoint, Decision, Decl, Step};
+use mpd_model::{Breakpoint, Decision, Decl};
 use mpd_names::push_break;
 use mpd_policy::decide;
 use mpd_runs::{push_ahead, push_count, push_no_choice, push_no_run, push_none};
 use mpd_session::Session;
 use std::alloc::{AllocError, Global};
 use std::fmt;
-
-// ---- on the state before a word
-
-/// A step in words, on the state before it; nothing of none.
-pub(crate) fn step_words(
-    alloc: Global,
-    session: &Session<'_>,
-    step: Option<Step>,
-) -> Result<String, AllocError> {
-    let mut out = String::new(alloc);
-    if let Some(step) = step {
-        push_step(session.debugger().core(), &mut out, step)?;
-    }
-    Ok(out)
-}
-
-/// Where it was decided how a run ends, in the state before the step that decided, and the word that
-/// takes the other step there.
-pub(crate) fn blame_words(
-    alloc: Global,
-    core: &Core<'_>,
-    blame: Blame,
-    number: Option<usize>,
-) -> Result<String, AllocError> {
-    let mut out = String::new(alloc);
-    push_blame(core, &mut out, blame)?;
-    out.push('\n')?;
-    if let Blame::At(decided) = blame {
-        let step = decided.other;
-        match number {
-            Some(number) => write!(out, "to try that: next {number}\n")?,
-            None => write!(out, "to try that: {step}\n")?,
-        }
-    }
-    Ok(out)
-}
 
 // ---- breakpoints
 
@@ -77,12 +41,37 @@ fn push_idle(out: &mut String, stop: Breakpoint) -> Result<(), AllocError> {
     }
 }
 
+// ---- the step that decided
+
+/// Adds where it was decided how a run ends, and the word that takes the other step there.
+fn push_blamed(out: &mut String, blamed: &Blamed) -> Result<(), AllocError> {
+    write!(out, "{}\n", blamed.blame)?;
+    if let Blame::At(decided) = blamed.blame.blame {
+        match blamed.number {
+            Some(number) => write!(out, "to try that: next {number}\n")?,
+            None => write!(out, "to try that: {}\n", decided.other)?,
+        }
+    }
+    Ok(())
+}
+
 // ---- moves
 
-/// Adds how a word has moved, given the step in words if it took one that is known.
-fn push_went(out: &mut String, went: Went, words: &str, depth: usize) -> Result<(), AllocError> {
+/// Adds how a word has moved, given the step if it took one that is known.
+fn push_went(
+    out: &mut String,
+    went: Went,
+    step: Option<PlacedStep>,
+    depth: usize,
+) -> Result<(), AllocError> {
     match went {
-        Went::One(_) => write!(out, "{depth} {words}\n"),
+        Went::One(_) => {
+            write!(out, "{depth} ")?;
+            if let Some(step) = step {
+                write!(out, "{step}")?;
+            }
+            out.push('\n')
+        }
         Went::There => write!(out, "depth {depth}\n"),
         Went::On(count) => {
             push_count(out, count)?;
@@ -135,7 +124,9 @@ fn push_news(
     match decided {
         Decision::Leaf(_) => Ok(()),
         Decision::Forced(_) | Decision::Choice(_) => {
-            push_lost_told(core, out, &news.lost_before.items, &news.lost.items)
+            let alloc = *out.allocator();
+            let lost = losses(alloc, core, &news.lost_before.items, &news.lost.items)?;
+            push_losses(out, &lost)
         }
     }
 }
@@ -168,27 +159,29 @@ pub(crate) fn push_where(
 ) -> Result<(), AllocError> {
     let debugger = session.debugger();
     let decided = decide(alloc, debugger.core())?;
-    push_standing(alloc, debugger, script, out, decided)
+    let position = position_of(alloc, debugger, decided)?;
+    push_position(out, script, session.code(), &position)
 }
 
-/// Adds what is said of a move, given the step in words if it took one that is known.
+/// Adds what is said of a move, given the step if it took one that is known.
 fn push_moved(
     alloc: Global,
     session: &Session<'_>,
     script: &[u8],
     out: &mut String,
     moved: &Moved,
-    words: &str,
+    step: Option<PlacedStep>,
 ) -> Result<(), AllocError> {
     let debugger = session.debugger();
     let core = debugger.core();
-    push_went(out, moved.went, words, moved.depth)?;
+    push_went(out, moved.went, step, moved.depth)?;
     let decided = decide(alloc, core)?;
     if let Some(news) = &moved.news {
         push_news(core, out, news, &decided)?;
     }
     push_stopped(out, core.code().decls(), moved.stopped)?;
-    push_standing(alloc, debugger, script, out, decided)
+    let position = position_of(alloc, debugger, decided)?;
+    push_position(out, script, core.code(), &position)
 }
 
 // ---- refusals
@@ -219,18 +212,17 @@ fn stands_behind(why: Why) -> bool {
 
 // ---- any word
 
-/// Adds what is said of what a request came to, given the step in words if it took one that is
-/// known.
+/// Adds what is said of what a request came to, given the step if it took one that is known.
 fn push_carried(
     alloc: Global,
     session: &Session<'_>,
     script: &[u8],
     out: &mut String,
     carried: &Carried,
-    words: &str,
+    step: Option<PlacedStep>,
 ) -> Result<(), AllocError> {
     match carried {
-        Carried::Moved(moved) => push_moved(alloc, session, script, out, moved, words),
+        Carried::Moved(moved) => push_moved(alloc, session, script, out, moved, step),
         Carried::Added { added, is_idle } => {
             push_break_line(out, session.code().decls(), *added)?;
             if *is_idle {
@@ -263,25 +255,25 @@ pub(crate) fn push_laid(
     push_where(alloc, session, script, out)
 }
 
-/// Adds what is said of a word.
+/// Adds what is said of a word, given the step if it took one that is known.
 fn push_told(
     alloc: Global,
     session: &Session<'_>,
     script: &[u8],
     out: &mut String,
     told: &Told,
-    words: &str,
+    step: Option<PlacedStep>,
 ) -> Result<(), AllocError> {
     match told {
-        Told::Carried(carried) => push_carried(alloc, session, script, out, carried, words),
+        Told::Carried(carried) => push_carried(alloc, session, script, out, carried, step),
         Told::Laid(laid) => push_laid(alloc, session, script, out, laid),
         Told::NoneEnds { way, counts, .. } => push_none(out, *way, *counts),
         Told::NoRun => push_no_run(out),
         Told::NoChoice => push_no_choice(out),
         Told::Blamed(blamed) => {
-            out.push_str(words)?;
+            push_blamed(out, blamed)?;
             match &blamed.gone {
-                Some(carried) => push_carried(alloc, session, script, out, carried, ""),
+                Some(carried) => push_carried(alloc, session, script, out, carried, None),
                 None => Ok(()),
             }
         }
@@ -310,18 +302,18 @@ fn layout_of(told: &Told) -> Layout {
     }
 }
 
-/// What a console says of what a word did, given what was said of the state before it, with the
+/// What a console says of what a word did, given the step if it took one that is known, with the
 /// prompt after it. `Err` means that memory was refused.
 pub(crate) fn told_bytes(
     alloc: Global,
     session: &Session<'_>,
     screen: Screen<'_>,
     told: &Told,
-    words: &str,
+    step: Option<PlacedStep>,
 ) -> Result<Vec<u8>, AllocError> {
     let Screen { script, look } = screen;
     let mut text = String::new(alloc);
-    push_told(alloc, session, script, &mut text, told, words)?;
+    push_told(alloc, session, script, &mut text, told, step)?;
     let mut out = Vec::new(alloc);
     match layout_of(told) {
         Layout::Bare => out.extend_from_slice(text.as_bytes())?,

@@ -1,7 +1,7 @@
 //! What a word did, as values (docs/CONSOLE.md, "Answers"): which steps were taken, how many and why no more, what they brought, and
 //! what is refused and why.
 
-use mpd_blame::Blame;
+use mpd_blame::PlacedBlame;
 use mpd_explore::Ending;
 use mpd_model::{Breakpoint, CallId, CallList, Step};
 use mpd_names::Named;
@@ -174,8 +174,8 @@ pub struct Laid {
 /// The step that decided how the run ends that is kept.
 #[derive(Drop)]
 pub struct Blamed {
-    /// Where it was decided.
-    pub blame: Blame,
+    /// Where it was decided, with the step that did.
+    pub blame: PlacedBlame,
     /// The number from 1 with which `next` takes the other step there, if it has one.
     pub number: Option<usize>,
     /// The move to where it was decided, if it is known where.

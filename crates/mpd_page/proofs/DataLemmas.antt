@@ -16,12 +16,9 @@ use Rattle.mpd_model.specs.texts.Modes.{mode_word}
 use Rattle.mpd_model.specs.texts.Texts.{step_text}
 use Rattle.mpd_policy.specs.declared.ending.Ending.{Ending}
 use Rattle.mpd_explore.specs.ReportText.{ending_text}
-use Rattle.mpd_explain.specs.Explained.{told}
-use Rattle.mpd_outcomes.specs.Goals.{meets}
-use Rattle.mpd_outcomes.specs.declared.report.Goal.TheVariants.{Bad}
 use Rattle.mpd_blame.specs.declared.back.Blame.{Blame}
 use Rattle.mpd_blame.specs.declared.back.Blame.TheVariants as blame_is
-use Rattle.mpd_blame.specs.Words.{blame_words}
+use Rattle.mpd_blame.specs.declared.told.PlacedBlame.{PlacedBlame}
 use Rattle.mpd_page.specs.declared.tree.Branch.{Branch}
 use Rattle.mpd_page.specs.declared.walk.Walk.{Walk}
 use Rattle.mpd_page.specs.Markup.{no_less}
@@ -34,9 +31,9 @@ use Rattle.mpd_page.specs.Trees as tr
 use Rattle.mpd_page.specs.Heads as hd
 use Rattle.mpd_page.specs.Heads.{key_text, text_member, bool_member, lines_member, format_text, ranks_member, name_text, how_text, declared_member, script_text, head_text}
 use Rattle.mpd_page.specs.Ends as en
-use Rattle.mpd_page.specs.Ends.{lines_if, outcome_text, end_text, decided_text, Decides, DecidesIf, IsEnd, AreEnds}
+use Rattle.mpd_page.specs.declared.ends.RunEnd.{RunEnd}
+use Rattle.mpd_page.specs.Ends.{lines_if, outcome_text, end_text, decided_text, decided_by, IsEnd, AreEnds}
 use Rattle.mpd_page.specs.Pages.{Titled, nodes_member, ends_member, more_text, data_text}
-use Rattle.mpd_marks.specs.Marked.{marked}
 use Rattle.mpd_page.specs.PageLaws.{NoMarkup}
 use Rattle.mpd_page.proofs.MarkupLemmas.{both, one_by_one, either, number, text, lines, listed, named, step}
 use Rattle.mpd_page.proofs.CleanLemmas as cl
@@ -179,12 +176,6 @@ outcome : (n : ℕ) (e : Ending) → no_less (outcome_text n e) ≡ true
 unfolding outcome_text
 outcome n e = four (codes ",\n{\"node\":") (decimal n) (codes ",\"outcome\":") (quoted (ending_text e)) refl (number n) refl (text (ending_text e))
 
-end : (source : List ℕ) (s : Program) (w : World) (n : ℕ) (e : Ending) → no_less (end_text source s w n e) ≡ true
-unfolding end_text
-end source s w n e =
-    three (outcome_text n e) (lines_if (codes "told") (marked source (told s w e))) (lines_if (codes "lost") (marked source (en.lost_by s w e))) (outcome n e) (lines_there (codes "told") (marked source (told s w e)) refl)
-    (lines_there (codes "lost") (marked source (en.lost_by s w e)) refl)
-
 depth : (b : Blame) → no_less (en.depth_text b) ≡ true
 depth (blame_is.At d) = number d.depth
 depth blame_is.FromStart = refl
@@ -196,18 +187,22 @@ decided : (b : Blame) (words : List ℕ) → no_less (decided_text b words) ≡ 
 unfolding decided_text
 decided b words = four (codes ",\"decided\":[") (en.depth_text b) (44 ∷ quoted words) (codes "]") refl (depth b) (text words) refl
 
-decides : (source : List ℕ) (most : ℕ) (b : Bool) (s : Program) (mode : Mode) (r : List Step) (t : List ℕ) → DecidesIf source most b s mode r t → no_less t ≡ true
-decides source most false s mode r t h = ap no_less h
-decides source most true s mode r t h = ap no_less h.text_is ∙ decided h.blame (marked source (blame_words s h.world h.blame))
+decided_one : (o : Option PlacedBlame) (words : List ℕ) → no_less (decided_by o words) ≡ true
+decided_one None words = refl
+decided_one (Some b) words = decided b.blame words
 
-one_end : (source : List ℕ) (most : ℕ) (s : Program) (mode : Mode) (n : ℕ) (r : List Step) (t : List ℕ) → IsEnd source most s mode n r t → no_less t ≡ true
-one_end source most s mode n r t h =
-    let e : Ending = en.ending_at h.world in
-    ap no_less h.text_is ∙ three (end_text source s h.world n e) h.decided (codes "}") (end source s h.world n e) (decides source most (meets Bad e) s mode r h.decided h.decides) refl
+end : (n : ℕ) (e : RunEnd) (told lost words : List ℕ) → no_less (end_text n e told lost words) ≡ true
+unfolding end_text
+end n e told lost words =
+    five (outcome_text n e.ending) (lines_if (codes "told") told) (lines_if (codes "lost") lost) (decided_by e.decided words) (codes "}")
+    (outcome n e.ending) (lines_there (codes "told") told refl) (lines_there (codes "lost") lost refl) (decided_one e.decided words) refl
 
-ends : (source : List ℕ) (most : ℕ) (s : Program) (mode : Mode) (rs : List (List Step)) (tree : List Branch) (t : List ℕ) → AreEnds source most s mode tree rs t → no_less t ≡ true
-ends source most s mode [] tree t h = ap no_less h
-ends source most s mode (r ∷ rs) tree t h = ap no_less h.2.2 ∙ both h.0 h.1 (one_end source most s mode (tr.run_end tree 0 r) r h.0 h.2.0) (ends source most s mode rs (tr.run_tree tree 0 r) h.1 h.2.1)
+one_end : (most : ℕ) (s : Program) (mode : Mode) (n : ℕ) (r : List Step) (t : List ℕ) → IsEnd most s mode n r t → no_less t ≡ true
+one_end most s mode n r t h = ap no_less h.text_is ∙ end n h.end h.told h.lost h.words
+
+ends : (most : ℕ) (s : Program) (mode : Mode) (rs : List (List Step)) (tree : List Branch) (t : List ℕ) → AreEnds most s mode tree rs t → no_less t ≡ true
+ends most s mode [] tree t h = ap no_less h
+ends most s mode (r ∷ rs) tree t h = ap no_less h.2.2 ∙ both h.0 h.1 (one_end most s mode (tr.run_end tree 0 r) r h.0 h.2.0) (ends most s mode rs (tr.run_tree tree 0 r) h.1 h.2.1)
 
 -- ---- all of it
 
@@ -230,4 +225,4 @@ data_there s w t rs z h =
     (head s w.board t.name t.walk t.hide t.said t.text) (nodes_under (tr.nodes_text s t.walk w rs) (states s t.walk w rs)) (ends_under z h) (more_there t.more)
 
 pub no_markup : NoMarkup
-no_markup source most s mode t rs z h = data_there s (start s mode) t rs z (ends source most s mode rs [] z h)
+no_markup most s mode t rs z h = data_there s (start s mode) t rs z (ends most s mode rs [] z h)

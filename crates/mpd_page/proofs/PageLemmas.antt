@@ -35,15 +35,15 @@ text_on s walk w tree now run left rest so_far text total split more told e =
     ap (λ t. text ++ runs_text s walk w t rest) more ∙ ap (λ xs. xs ++ there) told ∙ append_assoc so_far (run_text s walk tree 0 w run) there ∙ ap (λ xs. so_far ++ xs) (sym (ap (runs_text s walk w tree) split)) ∙ e
 
 -- what further ends make of those so far
-abbrev pub Further : List ℕ → ℕ → Program → Mode → List Branch → List (List Step) → List ℕ → List Branch → List (List Step) → Type 0
-Further script most s mode tree left so_far first runs = (z : List ℕ) → AreEnds script most s mode tree left z → AreEnds script most s mode first runs (so_far ++ z)
+abbrev pub Further : ℕ → Program → Mode → List Branch → List (List Step) → List ℕ → List Branch → List (List Step) → Type 0
+Further most s mode tree left so_far first runs = (z : List ℕ) → AreEnds most s mode tree left z → AreEnds most s mode first runs (so_far ++ z)
 
-pub ends_on : (script : List ℕ) (most : ℕ) (s : Program) (mode : Mode) (tree now first : List Branch) (run : List Step) (left rest runs : List (List Step)) (so_far ends : List ℕ) → left ≡ run ∷ rest → now ≡ run_tree tree 0 run
-    → EndAdded script most s mode (run_end tree 0 run) run so_far ends → Further script most s mode tree left so_far first runs → Further script most s mode now rest ends first runs
-ends_on script most s mode tree now first run left rest runs so_far ends split more added further z are =
-    let here : AreEnds script most s mode (run_tree tree 0 run) rest z = subst (λ t. AreEnds script most s mode t rest z) more are in
-    let all : AreEnds script most s mode tree left (added.one ++ z) = subst (λ xs. AreEnds script most s mode tree xs (added.one ++ z)) (sym split) (added.one, z, (added.is, here, refl)) in
-    subst (λ xs. AreEnds script most s mode first runs xs) (sym (ap (λ xs. xs ++ z) added.added ∙ append_assoc so_far added.one z)) (further (added.one ++ z) all)
+pub ends_on : (most : ℕ) (s : Program) (mode : Mode) (tree now first : List Branch) (run : List Step) (left rest runs : List (List Step)) (so_far ends : List ℕ) → left ≡ run ∷ rest → now ≡ run_tree tree 0 run
+    → EndAdded most s mode (run_end tree 0 run) run so_far ends → Further most s mode tree left so_far first runs → Further most s mode now rest ends first runs
+ends_on most s mode tree now first run left rest runs so_far ends split more added further z are =
+    let here : AreEnds most s mode (run_tree tree 0 run) rest z = subst (λ t. AreEnds most s mode t rest z) more are in
+    let all : AreEnds most s mode tree left (added.one ++ z) = subst (λ xs. AreEnds most s mode tree xs (added.one ++ z)) (sym split) (added.one, z, (added.is, here, refl)) in
+    subst (λ xs. AreEnds most s mode first runs xs) (sym (ap (λ xs. xs ++ z) added.added ∙ append_assoc so_far added.one z)) (further (added.one ++ z) all)
 
 -- ---- no run more
 
@@ -57,10 +57,10 @@ runs_over tree total left h e = sym (ap (runs_tree tree) (none_left left h)) ∙
 pub text_over : (s : Program) (walk : Walk) (w : World) (tree : List Branch) (left : List (List Step)) (so_far total : List ℕ) → length left ≡ 0 → so_far ++ runs_text s walk w tree left ≡ total → so_far ≡ total
 text_over s walk w tree left so_far total h e = sym (append-nil so_far) ∙ ap (λ xs. so_far ++ runs_text s walk w tree xs) (sym (none_left left h)) ∙ e
 
-pub ends_over : (script : List ℕ) (most : ℕ) (s : Program) (mode : Mode) (tree first : List Branch) (left runs : List (List Step)) (so_far : List ℕ) → length left ≡ 0 → Further script most s mode tree left so_far first runs → AreEnds script most s mode first runs so_far
-ends_over script most s mode tree first left runs so_far h further =
-    let none : AreEnds script most s mode tree left [] = subst (λ xs. AreEnds script most s mode tree xs []) (sym (none_left left h)) refl in
-    subst (λ xs. AreEnds script most s mode first runs xs) (append-nil so_far) (further [] none)
+pub ends_over : (most : ℕ) (s : Program) (mode : Mode) (tree first : List Branch) (left runs : List (List Step)) (so_far : List ℕ) → length left ≡ 0 → Further most s mode tree left so_far first runs → AreEnds most s mode first runs so_far
+ends_over most s mode tree first left runs so_far h further =
+    let none : AreEnds most s mode tree left [] = subst (λ xs. AreEnds most s mode tree xs []) (sym (none_left left h)) refl in
+    subst (λ xs. AreEnds most s mode first runs xs) (append-nil so_far) (further [] none)
 
 -- ---- too many
 

@@ -31,7 +31,7 @@ RunsAreShown =
 
 -- The data has no `<`, whatever the script, its name, and what is said of it: nothing in it ends the element that it stands in.
 abbrev pub NoMarkup : Type 0
-NoMarkup = (script : List ℕ) (most : ℕ) (s : Program) (mode : Mode) (t : Titled) (runs : List (List Step)) (ends : List ℕ) → AreEnds script most s mode [] runs ends → no_less (data_text s (start s mode) t runs ends) ≡ true
+NoMarkup = (most : ℕ) (s : Program) (mode : Mode) (t : Titled) (runs : List (List Step)) (ends : List ℕ) → AreEnds most s mode [] runs ends → no_less (data_text s (start s mode) t runs ends) ≡ true
 
 -- In the tree of any runs a state comes after the one from which a step leads there: that at place i of the list is number i + 1.
 abbrev pub ParentsComeFirst : Type 0

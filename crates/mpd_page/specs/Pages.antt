@@ -45,5 +45,5 @@ page_text s w t runs ends = page_head ++ data_text s w t runs ends ++ page_tail
 pub record IsPage (states : ℕ) (s : Program) (mode : Mode) (t : Titled) (runs : List (List Step)) (page : List ℕ) : Type 0 where
   pub few : is_few (runs_tree [] runs) ≡ true
   pub ends : List ℕ
-  pub are : AreEnds t.text (share states (length runs)) s mode [] runs ends
+  pub are : AreEnds (share states (length runs)) s mode [] runs ends
   pub text_is : page ≡ page_text s (start s mode) t runs ends

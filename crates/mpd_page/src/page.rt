@@ -52,7 +52,7 @@ fn draw_with(
     ensures tree { OnOk result (drawn.new.tree.items ≡ tree_spec.run_tree drawn.old.tree.items 0 run.now) }
     ensures few { OnOk result (length drawn.new.tree.items + 1 ≤ STATES_MAX) }
     ensures text { OnOk result (drawn.new.text.items ≡ drawn.old.text.items ++ tree_spec.run_text behind.old.trail.program plan.entry.walk drawn.old.tree.items 0 behind.old.world run.now) }
-    ensures ends { OnOk result (EndAdded plan.entry.script.now plan.entry.blamed ahead.old.trail.program ahead.old.trail.mode (tree_spec.run_end drawn.old.tree.items 0 run.now) run.now drawn.old.ends.items drawn.new.ends.items) }
+    ensures ends { OnOk result (EndAdded plan.entry.blamed ahead.old.trail.program ahead.old.trail.mode (tree_spec.run_end drawn.old.tree.items 0 run.now) run.now drawn.old.ends.items drawn.new.ends.items) }
     ensures too_many { IsErrOf result PageFault.TooMany → STATES_MAX < length (tree_spec.run_tree drawn.old.tree.items 0 run.now) + 1 }
 {
     let number = follow(behind, ahead, drawn, plan.walk, &run.items)?;
@@ -73,7 +73,7 @@ fn draw_by(
     ensures tree { OnOk result (drawn.new.tree.items ≡ tree_spec.run_tree drawn.old.tree.items 0 run.now) }
     ensures few { OnOk result (length drawn.new.tree.items + 1 ≤ STATES_MAX) }
     ensures text { OnOk result (drawn.new.text.items ≡ drawn.old.text.items ++ tree_spec.run_text behind.old.trail.program plan.entry.walk drawn.old.tree.items 0 behind.old.world run.now) }
-    ensures ends { OnOk result (EndAdded plan.entry.script.now plan.entry.blamed behind.old.trail.program behind.old.trail.mode (tree_spec.run_end drawn.old.tree.items 0 run.now) run.now drawn.old.ends.items drawn.new.ends.items) }
+    ensures ends { OnOk result (EndAdded plan.entry.blamed behind.old.trail.program behind.old.trail.mode (tree_spec.run_end drawn.old.tree.items 0 run.now) run.now drawn.old.ends.items drawn.new.ends.items) }
     ensures too_many { IsErrOf result PageFault.TooMany → STATES_MAX < length (tree_spec.run_tree drawn.old.tree.items 0 run.now) + 1 }
 {
     let Ok(mut ahead) = behind.copy() else {
@@ -97,7 +97,7 @@ fn draw_run(
     ensures tree { OnOk result (drawn.new.tree.items ≡ tree_spec.run_tree drawn.old.tree.items 0 run.now) }
     ensures few { OnOk result (length drawn.new.tree.items + 1 ≤ STATES_MAX) }
     ensures text { OnOk result (drawn.new.text.items ≡ drawn.old.text.items ++ tree_spec.run_text code.now.program plan.entry.walk drawn.old.tree.items 0 (start code.now.program mode) run.now) }
-    ensures ends { OnOk result (EndAdded plan.entry.script.now plan.entry.blamed code.now.program mode (tree_spec.run_end drawn.old.tree.items 0 run.now) run.now drawn.old.ends.items drawn.new.ends.items) }
+    ensures ends { OnOk result (EndAdded plan.entry.blamed code.now.program mode (tree_spec.run_end drawn.old.tree.items 0 run.now) run.now drawn.old.ends.items drawn.new.ends.items) }
     ensures too_many { IsErrOf result PageFault.TooMany → STATES_MAX < length (tree_spec.run_tree drawn.old.tree.items 0 run.now) + 1 }
 {
     let Ok(mut behind) = Debugger::start(alloc, code, mode) else {
@@ -122,7 +122,7 @@ fn draw_all(
     requires empty { drawn.old.ends.items ≡ [] }
     ensures few { OnOk result (length (tree_spec.runs_tree drawn.old.tree.items runs.now) + 1 ≤ STATES_MAX) }
     ensures text { OnOk result (drawn.new.text.items ≡ drawn.old.text.items ++ tree_spec.runs_text code.now.program plan.entry.walk (start code.now.program mode) drawn.old.tree.items runs.now) }
-    ensures ends { OnOk result (AreEnds plan.entry.script.now plan.entry.blamed code.now.program mode drawn.old.tree.items runs.now drawn.new.ends.items) }
+    ensures ends { OnOk result (AreEnds plan.entry.blamed code.now.program mode drawn.old.tree.items runs.now drawn.new.ends.items) }
     ensures too_many { IsErrOf result PageFault.TooMany → STATES_MAX < length (tree_spec.runs_tree drawn.old.tree.items runs.now) + 1 }
 {
     let mut left = runs;

@@ -1,10 +1,27 @@
 -- What a line of a view is answered, put together from what is told of its parts.
-use Rattle.std.proofs.Common.{◌≡◌, ℕ, ◌<◌, ◌⊎◌, List, [], ◌++◌, length, refl, ap, sym, ◌∙◌, subst, inl, inr}
+use Rattle.std.proofs.Common.{◌≡◌, ℕ, ◌<◌, ◌⊎◌, List, [], ◌∷◌, ◌++◌, length, arith, refl, ap, sym, ◌∙◌, subst, inl, inr}
 use Rattle.mpd_model.specs.declared.limits.TheConstants.{LINE_MAX}
+use Rattle.mpd_model.specs.runs.Trail.{IsReached, world_of}
+use Rattle.mpd_trail.specs.DebuggerViews.{DebuggerView, standing_of}
 use Rattle.mpd_session.specs.Held.{Held}
 use Rattle.mpd_console.specs.Says.{Console, ConsoleSays}
 use Rattle.mpd_view.specs.declared.screen.Size.{Size}
-use Rattle.mpd_view.specs.Says.{drawn, View, IsText, Drawn, AddsSuch, ViewSays, memory_line, undrawn_line}
+use Rattle.mpd_view.specs.Screens.{screen_text}
+use Rattle.mpd_view.specs.Says.{View, IsText, IsDrawn, Drawn, AddsSuch, ViewSays, memory_line, undrawn_line}
+
+-- ---- what is drawn
+
+pub drawn_of_none : (size : Size) (script : List ℕ) (s : Held) (told text : List ℕ) → length told ≡ 0 → text ≡ [] → IsDrawn size script s told text
+drawn_of_none size script s [] text h is = is
+drawn_of_none size script s (b ∷ z) text h is = absurd (omega (arith, h))
+
+pub drawn_of : (size : Size) (script : List ℕ) (s : Held) (d : DebuggerView) (b : ℕ) (z told ranks standing text : List ℕ) → told ≡ b ∷ z → IsReached (standing_of d) → d.trail ≡ s.trail → text ≡ screen_text size script d.trail d.world told ranks standing
+    → IsDrawn size script s told text
+drawn_of size script s d b z told ranks standing text split r e is =
+    let there : text ≡ screen_text size script s.trail d.world (b ∷ z) ranks standing = is ∙ ap (λ t. screen_text size script t d.world told ranks standing) e ∙ ap (λ y. screen_text size script s.trail d.world y ranks standing) split in
+    subst (λ y. IsDrawn size script s y text) (sym split) (d.world, (ap world_of (sym e) ∙ r.world, (ranks, (standing, there))))
+
+pub ruleset drawing = (drawn_of_none, drawn_of)
 
 -- ---- what is added
 
@@ -14,9 +31,9 @@ added_whole whole before after e = (whole, e, inl refl)
 pub added_other : (whole before after : List ℕ) → after ≡ before ++ undrawn_line → AddsSuch (IsText whole) before after
 added_other whole before after e = (undrawn_line, e, inr refl)
 
-pub drawn_whole : (size : Size) (script : List ℕ) (s : Held) (told text before after : List ℕ) → text ≡ drawn size script s told → AddsSuch (IsText text) before after → AddsSuch (Drawn size script s told) before after
-drawn_whole size script s told text before after e (z, h, inl k) = (z, h, inl (k ∙ e))
-drawn_whole size script s told text before after e (z, h, inr k) = (z, h, inr k)
+pub drawn_whole : (size : Size) (script : List ℕ) (s : Held) (told text before after : List ℕ) → IsDrawn size script s told text → AddsSuch (IsText text) before after → AddsSuch (Drawn size script s told) before after
+drawn_whole size script s told text before after is (z, h, inl k) = (z, h, inl (subst (IsDrawn size script s told) (sym k) is))
+drawn_whole size script s told text before after is (z, h, inr k) = (z, h, inr k)
 
 pub drawn_not : (size : Size) (script : List ℕ) (s : Held) (told before after : List ℕ) → after ≡ before ++ undrawn_line → AddsSuch (Drawn size script s told) before after
 drawn_not size script s told before after e = (undrawn_line, e, inr refl)

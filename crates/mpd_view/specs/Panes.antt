@@ -5,7 +5,6 @@ use Rattle.mpd_model.specs.script.Program.{Program}
 use Rattle.mpd_model.specs.steps.World.{World}
 use Rattle.mpd_model.specs.texts.Lines.{lines_of}
 use Rattle.mpd_model.specs.texts.Texts.{line}
-use Rattle.mpd_explain.specs.Shown.{ranks_text}
 use Rattle.mpd_view.specs.Rows.{cut, filled, to_right, first, others}
 use Rattle.mpd_view.specs.Layout.{left_columns, right_columns, above}
 use Rattle.mpd_view.specs.Places.{here, gutter, focus}
@@ -28,9 +27,9 @@ pane_rows_of s w columns zero place lines ranks = []
 pane_rows_of s w columns (suc k) place lines ranks =
     pane_row columns (cell s w (place + 1) lines) (first ranks) ++ pane_rows_of s w columns k (place + 1) (others lines) (others ranks)
 
-abbrev pub panes_at : Program → World → ℕ → ℕ → List (List ℕ) → ℕ → List ℕ
-panes_at s w columns rows lines place = pane_rows_of s w columns rows place (drop place lines) (lines_of (ranks_text s w))
+abbrev pub panes_at : Program → World → ℕ → ℕ → List (List ℕ) → List ℕ → ℕ → List ℕ
+panes_at s w columns rows lines ranks place = pane_rows_of s w columns rows place (drop place lines) (lines_of ranks)
 
--- the panes, of the text of a script
-abbrev pub panes : Program → World → ℕ → ℕ → List ℕ → List ℕ
-panes s w columns rows script = panes_at s w columns rows (lines_of script) (above (length (lines_of script)) (focus s w) rows)
+-- the panes, of the text of a script, and of what is told of ranks, which may be any text
+abbrev pub panes : Program → World → ℕ → ℕ → List ℕ → List ℕ → List ℕ
+panes s w columns rows script ranks = panes_at s w columns rows (lines_of script) ranks (above (length (lines_of script)) (focus s w) rows)

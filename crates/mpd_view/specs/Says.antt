@@ -17,15 +17,10 @@ memory_line = line (codes "refused: memory")
 abbrev pub undrawn_line : List ℕ
 undrawn_line = line (codes "memory for the screen was refused")
 
--- a text of the world where a session stands; no session holds a trail that leads nowhere
-abbrev pub at_world : (World → List ℕ) → Option World → List ℕ
-at_world f None = []
-at_world f (Some w) = f w
-
--- the screen of a session after what a console has said; nothing after nothing
-abbrev pub drawn : Size → List ℕ → Held → List ℕ → List ℕ
-drawn size script s [] = []
-drawn size script s (b ∷ z) = at_world (λ w. screen_text size script s.trail w (b ∷ z)) (world_of s.trail)
+-- The screen of a session after what a console has said; nothing after nothing. What is told of ranks there, and of where it stands, may be any text.
+abbrev pub IsDrawn : Size → List ℕ → Held → List ℕ → List ℕ → Type 0
+IsDrawn size script s [] text = text ≡ []
+IsDrawn size script s (b ∷ z) text = (w : World) × (world_of s.trail ≡ Some w) × ((ranks : List ℕ) × (standing : List ℕ) × (text ≡ screen_text size script s.trail w (b ∷ z) ranks standing))
 
 -- a text, or that line in its place
 abbrev pub IsText : List ℕ → List ℕ → Type 0
@@ -37,7 +32,7 @@ AddsSuch P before after = (text : List ℕ) × (after ≡ before ++ text) × P t
 
 -- the screen after an answer, or that line in its place
 abbrev pub Drawn : Size → List ℕ → Held → List ℕ → List ℕ → Type 0
-Drawn size script s told text = IsText (drawn size script s told) text
+Drawn size script s told text = IsDrawn size script s told text ⊎ (text ≡ undrawn_line)
 
 -- what a view holds: a console, the text of its script, and the size of its screen
 pub record View : Type 0 where

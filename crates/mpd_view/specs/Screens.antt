@@ -6,7 +6,6 @@ use Rattle.mpd_model.specs.steps.World.{World}
 use Rattle.mpd_model.specs.runs.Trail.{Trail}
 use Rattle.mpd_model.specs.texts.Lines.{lines_of, raw_lines}
 use Rattle.mpd_model.specs.texts.Texts.{line}
-use Rattle.mpd_explain.specs.Standing.{standing_text}
 use Rattle.mpd_view.specs.declared.screen.Size.{Size}
 use Rattle.mpd_view.specs.Rows.{cut, first, last, cut_line}
 use Rattle.mpd_view.specs.Layout.{pane_rows}
@@ -27,13 +26,13 @@ state_row columns depth told = line (cut columns (state_words columns depth told
 abbrev pub answer_rows : ℕ → ℕ → List ℕ → List ℕ
 answer_rows columns count told = flat_map (cut_line columns) (last count (raw_lines told))
 
--- below panes of so many rows, of a screen of this size
-abbrev pub below : Size → List ℕ → Trail → World → List ℕ → ℕ → List ℕ
-below size script t w told rows = state_row size.columns t.depth (standing_text script t w) ++ answer_rows size.columns (size.rows - rows - 1) told
+-- below panes of so many rows, of a screen of this size, where so many steps are not undone; what tells where it stands may be any text
+abbrev pub below : Size → ℕ → List ℕ → List ℕ → ℕ → List ℕ
+below size depth standing told rows = state_row size.columns depth standing ++ answer_rows size.columns (size.rows - rows - 1) told
 
-abbrev pub screen_of : Size → List ℕ → Trail → World → List ℕ → ℕ → List ℕ
-screen_of size script t w told rows = clear ++ panes t.program w size.columns rows script ++ below size script t w told rows
+abbrev pub screen_of : Size → List ℕ → Trail → World → List ℕ → List ℕ → List ℕ → ℕ → List ℕ
+screen_of size script t w told ranks standing rows = clear ++ panes t.program w size.columns rows script ranks ++ below size t.depth standing told rows
 
--- the screen of a script where a trail stands, after an answer
-abbrev pub screen_text : Size → List ℕ → Trail → World → List ℕ → List ℕ
-screen_text size script t w told = screen_of size script t w told (pane_rows size.rows (length w.ranks))
+-- the screen of a script where a trail stands, after an answer, of these texts of ranks and of where it stands
+abbrev pub screen_text : Size → List ℕ → Trail → World → List ℕ → List ℕ → List ℕ → List ℕ
+screen_text size script t w told ranks standing = screen_of size script t w told ranks standing (pane_rows size.rows (length w.ranks))

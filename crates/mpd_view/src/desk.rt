@@ -2,13 +2,17 @@
 
 ghost use Rattle.std.specs.Prelude.{[], ◌≡◌, ◌+◌, ◌≤◌, ◌<◌, ◌++◌, ℕ, List, IfOk, OnOk, OnErr, length, vec_len, vec_capacity};
 ghost use Rattle.mpd_console.specs.Says.{ConsoleSays};
-ghost use Rattle.mpd_view.specs.Says.{drawn, AddsSuch, Drawn, IsText};
+ghost use Rattle.mpd_view.specs.Says.{AddsSuch, Drawn, IsDrawn, IsText};
 
 use crate::screen::{Drawing, Size, push_screen};
 use mpd_console::ConsoleDesk;
+use mpd_core::Core;
+use mpd_explain::{position_of, push_position, push_ranks};
 use mpd_lines::{LINE_ROOM, LineDesk, ROOM, push_all};
 use mpd_model::LINE_MAX;
+use mpd_policy::decide;
 use mpd_session::Session;
+use mpd_trail::Debugger;
 use std::alloc::{AllocError, Global};
 use std::marker::Model;
 
@@ -18,21 +22,54 @@ const MEMORY: &[u8] = b"refused: memory\n";
 /// What stands in the place of a screen whose text is refused memory.
 const UNDRAWN: &[u8] = b"memory for the screen was refused\n";
 
-/// The screen of a session after an answer; nothing after no answer.
+/// What is told of ranks, a line for each.
+fn ranks_words(alloc: Global, core: &Core<'_>) -> Result<String, AllocError> {
+    let mut out = String::new(alloc);
+    push_ranks(core, &mut out)?;
+    Ok(out)
+}
+
+/// What tells where a debugger stands, given the text of its script.
+fn standing_words(
+    alloc: Global,
+    debugger: &Debugger<'_>,
+    script: &[u8],
+) -> Result<String, AllocError> {
+    let core = debugger.core();
+    let decided = decide(alloc, core)?;
+    let position = position_of(alloc, debugger, decided)?;
+    let mut out = String::new(alloc);
+    push_position(&mut out, script, core.code(), &position)?;
+    Ok(out)
+}
+
+/// The screen of a session of this size, after an answer, given the text of its script; nothing after no answer.
+#[tactic(auto, using(crate::proofs::DeskLemmas::drawing))]
 fn drawn_text(
     alloc: Global,
     session: &Session<'_>,
-    drawing: Drawing<'_>,
+    size: Size,
+    script: &[u8],
+    told: &[u8],
 ) -> Result<Vec<u8>, AllocError>
-    ensures { IfOk result (λ t. t.items ≡ drawn drawing.entry.size drawing.entry.script.now session.now drawing.entry.told.now) }
+    ensures { IfOk result (λ t. IsDrawn size script.now session.now told.now t.items) }
 {
     let mut out = Vec::new(alloc);
-    if drawing.told.is_empty() {
+    let Some((_, _)) = told.split_first() else {
         return Ok(out);
-    }
+    };
     let debugger = session.debugger();
     debugger.state_is_reached();
-    push_screen(alloc, debugger, &mut out, drawing)?;
+    let ranks = ranks_words(alloc, debugger.core())?;
+    let standing = standing_words(alloc, debugger, script)?;
+    let drawing = Drawing {
+        size,
+        script,
+        told,
+        ranks: ranks.as_bytes(),
+        standing: standing.as_bytes(),
+    };
+    push_screen(debugger, &mut out, drawing)?;
     Ok(out)
 }
 
@@ -97,14 +134,9 @@ impl<'c, 't> ViewDesk<'c, 't> {
 
     /// The screen after what the console has said; nothing if it has said nothing. `Err` means that memory was refused.
     pub fn screen(&self, alloc: Global, told: &[u8]) -> Result<Vec<u8>, AllocError>
-        ensures { IfOk result (λ t. t.items ≡ drawn self.now.size self.now.script self.now.console.session told.now) }
+        ensures { IfOk result (λ t. IsDrawn self.now.size self.now.script self.now.console.session told.now t.items) }
     {
-        let drawing = Drawing {
-            size: self.size,
-            script: self.script,
-            told,
-        };
-        drawn_text(alloc, self.console.session(), drawing)
+        drawn_text(alloc, self.console.session(), self.size, self.script, told)
     }
 
     /// Adds that screen, or the line that stands in its place where its text is refused memory.

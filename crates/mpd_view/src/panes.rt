@@ -1,6 +1,6 @@
 //! The panes of a view: lines of the script on the left, ranks on the right.
 
-ghost use Rattle.std.specs.Prelude.{◌≡◌, ◌++◌, ◌<◌, ◌+◌, ◌≤◌, OnOk, drop, length, string_bytes};
+ghost use Rattle.std.specs.Prelude.{◌≡◌, ◌++◌, ◌<◌, ◌+◌, ◌≤◌, OnOk, drop, length};
 ghost use Rattle.mpd_model.specs.texts.Lines.{lines_of, raw_lines};
 ghost use Rattle.mpd_view.specs.Panes as spec;
 ghost use Rattle.mpd_view.specs.Rows.{first, to_right};
@@ -12,7 +12,6 @@ use crate::places::{focus, push_gutter};
 use crate::rows::{first_line, push_cut, push_filled, push_to_right};
 use itoa::Buffer;
 use mpd_core::Core;
-use mpd_explain::push_ranks;
 use mpd_model::{bare_line, cut_line};
 use std::alloc::AllocError;
 
@@ -111,29 +110,22 @@ fn push_rows(
     Ok(())
 }
 
-/// Adds the panes, in so many columns and rows, of the text of a script. `Err` means that memory was refused.
+/// Adds the panes, in so many columns and rows, of the text of a script and of lines about ranks. `Err` means that memory was refused.
 pub(crate) fn push_panes(
     core: &Core<'_>,
     out: &mut Vec<u8>,
     columns: usize,
     rows: usize,
     script: &[u8],
+    ranks: &[u8],
 ) -> Result<(), AllocError>
-    ensures { OnOk result (out.new.items ≡ out.old.items ++ spec.panes core.now.program core.now.world columns rows script.now) }
+    ensures { OnOk result (out.new.items ≡ out.old.items ++ spec.panes core.now.program core.now.world columns rows script.now ranks.now) }
 {
-    let mut told = String::new(*out.allocator());
-    push_ranks(core, &mut told)?;
     let above = above(line_count(script), focus(core), rows);
     let frame = Frame {
         columns,
         rows,
         above,
     };
-    push_rows(
-        core,
-        out,
-        frame,
-        behind_lines(script, above),
-        told.as_bytes(),
-    )
+    push_rows(core, out, frame, behind_lines(script, above), ranks)
 }

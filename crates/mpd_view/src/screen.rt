@@ -1,7 +1,6 @@
 //! The screen of a view: panes, where it stands, and the last answer.
 
-ghost use Rattle.std.specs.Prelude.{◌≡◌, ◌++◌, OnOk, length, string_bytes};
-ghost use Rattle.mpd_explain.specs.Standing.{standing_text};
+ghost use Rattle.std.specs.Prelude.{◌≡◌, ◌++◌, OnOk};
 ghost use Rattle.mpd_view.specs.Screens as spec;
 
 use crate::layout::pane_rows;
@@ -9,10 +8,8 @@ use crate::lines::{behind_lines, line_count, push_cut_lines};
 use crate::panes::push_panes;
 use crate::rows::{first_line, push_cut, push_times};
 use itoa::Buffer;
-use mpd_explain::push_standing;
-use mpd_policy::decide;
 use mpd_trail::Debugger;
-use std::alloc::{AllocError, Global};
+use std::alloc::AllocError;
 
 /// What clears a terminal, and begins in its upper left corner.
 const CLEAR: &[u8] = b"\x1b[2J\x1b[H";
@@ -61,22 +58,6 @@ fn push_state_row(
     Ok(())
 }
 
-/// Adds where a debugger stands, on a script, as a row.
-fn push_state(
-    alloc: Global,
-    debugger: &Debugger<'_>,
-    out: &mut Vec<u8>,
-    columns: usize,
-    script: &[u8],
-) -> Result<(), AllocError>
-    ensures { OnOk result (out.new.items ≡ out.old.items ++ spec.state_row columns debugger.now.trail.depth (standing_text script.now debugger.now.trail debugger.now.world)) }
-{
-    let mut told = String::new(alloc);
-    let decided = decide(alloc, debugger.core())?;
-    push_standing(alloc, debugger, script, &mut told, decided)?;
-    push_state_row(out, columns, debugger.depth(), told.as_bytes())
-}
-
 /// Adds the last lines of an answer, so many at most.
 fn push_answer(
     out: &mut Vec<u8>,
@@ -90,47 +71,60 @@ fn push_answer(
     push_cut_lines(out, behind_lines(told, passed), columns)
 }
 
-/// Adds what stands below the panes, which have so many rows.
+/// What is drawn of a debugger.
+#[derive(Clone, Copy)]
+pub(crate) struct Drawing<'t> {
+    /// How many rows and columns the screen has.
+    pub(crate) size: Size,
+    /// The text of the script.
+    pub(crate) script: &'t [u8],
+    /// The last answer.
+    pub(crate) told: &'t [u8],
+    /// What is told of ranks, a line for each.
+    pub(crate) ranks: &'t [u8],
+    /// What tells where the debugger stands.
+    pub(crate) standing: &'t [u8],
+}
+
+/// Adds what stands below the panes, which have so many rows, where so many steps are not undone.
 fn push_below(
-    alloc: Global,
-    debugger: &Debugger<'_>,
     out: &mut Vec<u8>,
+    depth: usize,
     drawing: Drawing<'_>,
     rows: usize,
 ) -> Result<(), AllocError>
-    ensures { OnOk result (out.new.items ≡ out.old.items ++ spec.below drawing.entry.size drawing.entry.script.now debugger.now.trail debugger.now.world drawing.entry.told.now rows) }
+    ensures { OnOk result (out.new.items ≡ out.old.items ++ spec.below drawing.entry.size depth drawing.entry.standing.now drawing.entry.told.now rows) }
 {
-    let Drawing { size, script, told } = drawing;
-    push_state(alloc, debugger, out, size.columns, script)?;
+    let Drawing {
+        size,
+        script: _,
+        told,
+        ranks: _,
+        standing,
+    } = drawing;
+    push_state_row(out, size.columns, depth, standing)?;
     let count = size.rows.saturating_sub(rows).saturating_sub(1);
     push_answer(out, size.columns, count, told)
 }
 
-/// What is drawn of a debugger: a screen of this size, with the text of the script and the last answer.
-#[derive(Clone, Copy)]
-pub(crate) struct Drawing<'t> {
-    pub(crate) size: Size,
-    pub(crate) script: &'t [u8],
-    pub(crate) told: &'t [u8],
-}
-
 /// Adds the screen of a debugger. `Err` means that memory was refused.
 pub(crate) fn push_screen(
-    alloc: Global,
     debugger: &Debugger<'_>,
     out: &mut Vec<u8>,
     drawing: Drawing<'_>,
 ) -> Result<(), AllocError>
-    ensures { OnOk result (out.new.items ≡ out.old.items ++ spec.screen_text drawing.entry.size drawing.entry.script.now debugger.now.trail debugger.now.world drawing.entry.told.now) }
+    ensures { OnOk result (out.new.items ≡ out.old.items ++ spec.screen_text drawing.entry.size drawing.entry.script.now debugger.now.trail debugger.now.world drawing.entry.told.now drawing.entry.ranks.now drawing.entry.standing.now) }
 {
     let Drawing {
         size,
         script,
         told: _,
+        ranks,
+        standing: _,
     } = drawing;
     let core = debugger.core();
     let rows = pane_rows(size.rows, core.rank_count());
     out.extend_from_slice(CLEAR)?;
-    push_panes(core, out, size.columns, rows, script)?;
-    push_below(alloc, debugger, out, drawing, rows)
+    push_panes(core, out, size.columns, rows, script, ranks)?;
+    push_below(out, debugger.depth(), drawing, rows)
 }

@@ -1,7 +1,6 @@
-use Rattle.std.proofs.Common.{◌≡◌, ◌-◌, ◌++◌, map}
-use Rattle.std.specs.List.{range_with_len}
-use Rattle.mpd_adapter.specs.Looks.{thread_at, threads_of}
+use Rattle.std.proofs.Common.{◌≡◌, map, take}
+use Rattle.mpd_adapter.specs.Looks.{thread_id, doing_id}
 use Rattle.mpd_adapter.proofs.looks.threads_of.Given as goal
 
-abbrev pub invariant-loop-rank : goal.invariant-loop-rank
-invariant-loop-rank l = l.list.items ++ map (thread_at l.core.program l.core.world) (range_with_len l.rank (l.count - l.rank)) ≡ threads_of l.core.program l.core.world
+abbrev pub invariant-loop-doing : goal.invariant-loop-doing
+invariant-loop-doing l = map thread_id l.list.items ≡ map doing_id (take l.doing-index l.doings)

@@ -16,7 +16,7 @@ loop-one-preserved c =
       few = told.few;
       tree = runs_on tree now _ c.in-Some.one.now left rest (search rules) told.tree t.tree;
       text = text_on s c.args.plan.walk (start s c.args.mode) tree now c.in-Some.one.now left rest c.loop-one.drawn.text.items c.draw_run.new.drawn.text.items _ (search rules) told.tree told.text t.text;
-      ends = ends_on c.args.plan.script.now c.args.plan.blamed s c.args.mode tree now _ c.in-Some.one.now left rest _ c.loop-one.drawn.ends.items c.draw_run.new.drawn.ends.items (search rules) told.tree told.ends t.ends;
+      ends = ends_on c.args.plan.blamed s c.args.mode tree now _ c.in-Some.one.now left rest _ c.loop-one.drawn.ends.items c.draw_run.new.drawn.ends.items (search rules) told.tree told.ends t.ends;
     }
 
 pub returns-in-Err-clause-too_many : goal.returns-in-Err-clause-too_many
@@ -25,4 +25,4 @@ returns-in-Err-clause-too_many c h =
 
 pub returns-clause-ends : goal.returns-clause-ends
 returns-clause-ends c =
-    ends_over c.args.plan.script.now c.args.plan.blamed c.args.code.now.program c.args.mode c.loop-one.drawn.tree.items _ c.loop-one.left.now _ c.loop-one.drawn.ends.items (search rules) c.loop-one.invariant.ends
+    ends_over c.args.plan.blamed c.args.code.now.program c.args.mode c.loop-one.drawn.tree.items _ c.loop-one.left.now _ c.loop-one.drawn.ends.items (search rules) c.loop-one.invariant.ends

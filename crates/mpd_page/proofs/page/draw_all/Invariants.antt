@@ -10,7 +10,7 @@ invariant-loop-one l = record {
   few : length l.drawn.tree.items + 1 ≤ STATES_MAX;
   tree : runs_tree l.drawn.tree.items l.left ≡ runs_tree l.fn.drawn.tree.items l.runs;
   text : l.drawn.text.items ++ runs_text l.code.program l.plan.walk (start l.code.program l.mode) l.drawn.tree.items l.left ≡ l.fn.drawn.text.items ++ runs_text l.code.program l.plan.walk (start l.code.program l.mode) l.fn.drawn.tree.items l.runs;
-  ends : Further l.plan.script.now l.plan.blamed l.code.program l.mode l.drawn.tree.items l.left l.drawn.ends.items l.fn.drawn.tree.items l.runs;
+  ends : Further l.plan.blamed l.code.program l.mode l.drawn.tree.items l.left l.drawn.ends.items l.fn.drawn.tree.items l.runs;
 }
 
 abbrev pub decreases-loop-one : goal.decreases-loop-one
