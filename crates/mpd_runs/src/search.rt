@@ -82,8 +82,8 @@ fn copy_outcome(alloc: Global, outcome: &Outcome) -> Result<Outcome, AllocError>
     }
 }
 
-/// A copy of how a run ends.
-fn copy_ending(alloc: Global, ending: &Ending) -> Result<Ending, AllocError>
+/// A copy of how a run ends. `Err` means that memory was refused.
+pub fn copy_ending(alloc: Global, ending: &Ending) -> Result<Ending, AllocError>
     ensures { IfOk result (λ e. e ≡ ending.now) }
 {
     match ending {
