@@ -155,17 +155,6 @@ abbrev pub LeastPut : Option Mode → SinkSeen → SinkSeen → Result Unit Chec
 LeastPut least old new (Err (Engine Memory)) = new ≡ old
 LeastPut least old new result = PutCount (least_line least) old new result
 
--- how many pieces there are, or why that isn't told
-abbrev pub IsPieceCount : Program → Mode → SearchPlan → Result ℕ CheckFault → Type 0
-IsPieceCount s mode plan (Ok count) = (count ≡ length (pieces_of s mode plan)) × AreFew s mode plan
-IsPieceCount s mode plan (Err (Engine Memory)) = Unit {0}
-IsPieceCount s mode plan (Err (Engine WriteFailed)) = ⊥
-IsPieceCount s mode plan (Err (Engine ReadFailed)) = ⊥
-IsPieceCount s mode plan (Err (Engine TooManyTurns)) = ⊥
-IsPieceCount s mode plan (Err BadWorkers) = ⊥
-IsPieceCount s mode plan (Err TooManyPieces) = PIECES_MAX < length (pieces_of s mode plan)
-IsPieceCount s mode plan (Err (NoSuchPiece number count)) = ⊥
-
 -- How many pieces there are was written; or nothing, where they are too many.
 abbrev pub Counted : Program → Mode → SearchPlan → SinkSeen → SinkSeen → Result Unit CheckFault → Type 0
 Counted s mode plan old new (Ok done) = Wrote (count_text (length (pieces_of s mode plan))) old new × AreFew s mode plan

@@ -35,7 +35,7 @@ pub use outcomes::{
     OutcomesFound, OutcomesListing, OutcomesPlan, check_mode_outcomes, check_outcomes, found_in,
     list_outcomes, outcomes_in,
 };
-pub use part::{check_piece, count_pieces, list_piece, piece_count};
+pub use part::{check_piece, count_pieces};
 pub use print::put_listing;
 use std::alloc::Global;
 use std::marker::Sync;

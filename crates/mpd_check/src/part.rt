@@ -5,7 +5,7 @@ ghost use Rattle.mpd_model.specs.runs.Trail.{first_standing};
 ghost use Rattle.mpd_trail.specs.DebuggerViews.{standing_of};
 ghost use Rattle.mpd_explore.specs.Sleeping.{decides_by};
 ghost use Rattle.mpd_explore.specs.Pieces.{numbered, Reaches};
-ghost use Rattle.mpd_check.specs.Checked.{pieces_of, leaves_at, more_at, count_text, AreFew, Counted, IsPieceCount};
+ghost use Rattle.mpd_check.specs.Checked.{pieces_of, leaves_at, more_at, count_text, AreFew, Counted};
 ghost use Rattle.mpd_check.specs.Listing.{IsListing, IsPartListed, PartWritten};
 ghost use Rattle.mpd_check.specs.Refused.{split_refused};
 
@@ -68,27 +68,9 @@ fn count_text(alloc: Global, count: usize) -> Result<String, AllocError>
     Ok(out)
 }
 
-/// Into how many pieces the runs of a script from its start are cut. Refused if there are more than
-/// 1,024 (31); `Memory` means that memory was refused. Requires a fuel of at most 1,000,000 steps.
-pub fn piece_count(
-    alloc: Global,
-    subject: Subject<'_>,
-    plan: SearchPlan,
-) -> Result<usize, CheckFault>
-    requires { plan.limits.fuel ≤ STEPS_MAX }
-    ensures { IsPieceCount subject.entry.code.now.program subject.entry.mode plan result }
-{
-    let begun = match begin(alloc, subject, plan) {
-        Ok(begun) => begun,
-        Err(fault) => return Err(refused(fault)),
-    };
-    let count = begun.pieces.len();
-    drop(begun);
-    Ok(count)
-}
-
-/// The same is written, as `pieces 225`. `WriteFailed` (46) comes only if a write failed, and
-/// `Memory` only before anything is written.
+/// Writes into how many pieces the runs of a script from its start are cut, as `pieces 225`.
+/// Refused if there are more than 1,024 (31); `WriteFailed` (46) comes only if a write failed, and
+/// `Memory` only before anything is written. Requires a fuel of at most 1,000,000 steps.
 pub fn count_pieces<W: Sink>(
     alloc: Global,
     subject: Subject<'_>,
@@ -98,7 +80,12 @@ pub fn count_pieces<W: Sink>(
     requires { plan.limits.fuel ≤ STEPS_MAX }
     ensures { Counted subject.entry.code.now.program subject.entry.mode plan (W.seen sink.old) (W.seen sink.new) result }
 {
-    let count = piece_count(alloc, subject, plan)?;
+    let begun = match begin(alloc, subject, plan) {
+        Ok(begun) => begun,
+        Err(fault) => return Err(refused(fault)),
+    };
+    let count = begun.pieces.len();
+    drop(begun);
     match count_text(alloc, count) {
         Ok(text) => put_text(text, sink),
         Err(_) => Err(CheckFault::Engine(EngineFault::Memory)),
@@ -176,7 +163,7 @@ fn list_from_start<P: Watch>(
 /// more than 1,024 pieces (31), or if no piece has the number; `Memory` means that memory was
 /// refused. Requires a fuel of at most 1,000,000 steps. `watch` is told of each leaf as it is found,
 /// and of the end; nothing else depends on it.
-pub fn list_piece<P: Watch>(
+fn list_piece<P: Watch>(
     alloc: Global,
     subject: Subject<'_>,
     wanted: Wanted<'_>,
