@@ -1,7 +1,7 @@
 //! The runs from a debugger's state, along the wide walk, which takes two steps that do not
 //! conflict in one order alone; and what is said of them (docs/CONSOLE.md, "Looking ahead").
 
-ghost use Rattle.std.specs.Prelude.{◌≡◌, ◌≤◌, ◌+◌, IfOk, length};
+ghost use Rattle.std.specs.Prelude.{◌≡◌, ◌≤◌, ◌+◌, true, IfOk, length};
 ghost use Rattle.std.specs.List.{AllByRecursion};
 ghost use Rattle.mpd_model.specs.runs.Trail.{done_steps};
 ghost use Rattle.mpd_trail.specs.DebuggerViews.{AsFound, standing_of};
