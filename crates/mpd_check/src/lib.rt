@@ -1,5 +1,5 @@
-//! Looks for deadlocks and traps: a script is explored from its start by workers, with the same report for every number of them, or runs
-//! of it are drawn, and the report is written to a sink.
+//! Looks for deadlocks and traps: a script is explored from its start by workers, with the same
+//! report for every number of them, or runs of it are drawn, and the report is written to a sink.
 #![tactic(auto)]
 
 pub mod counts;
@@ -185,8 +185,8 @@ impl ReportOptions {
 
 /// The report of a script's runs, written to a sink: a line for each, the witness after a deadlock
 /// if it is wanted, and how many there are (docs/FORMATS.md, "Reports"). The verdict is bad if a
-/// deadlock or a trap is listed, else good; its `status` is the program's. Refused as `check_search`
-/// is, in the same order. Requires a fuel of at most 1,000,000 steps.
+/// deadlock or a trap is listed, else good; its `status` is the program's. Refused as
+/// `check_search` is, in the same order. Requires a fuel of at most 1,000,000 steps.
 pub fn check<W: Sink, R: Threads + Sync>(
     rt: &R,
     alloc: Global,

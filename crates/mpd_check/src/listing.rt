@@ -39,7 +39,8 @@ pub struct Telling<'t> {
     pub explain: bool,
     /// Whether each different end is listed once, in place of the leaves.
     pub group: bool,
-    /// The text of the script, the places of whose marks stand beside lines that are told (docs/FROM_A_RUN.md, "Marks").
+    /// The text of the script, the places of whose marks stand beside lines that are told
+    /// (docs/FROM_A_RUN.md, "Marks").
     pub script: &'t [u8],
 }
 
@@ -75,8 +76,8 @@ pub struct Listing {
     pub ends: Vec<End>,
 }
 
-/// The ends of leaves that were listed along a schedule, if they are asked for. The debugger is left
-/// as found.
+/// The ends of leaves that were listed along a schedule, if they are asked for. The debugger is
+/// left as found.
 pub(crate) fn ends_if<S: Schedule>(
     alloc: Global,
     schedule: &S,
@@ -212,9 +213,9 @@ fn list_all<G: Gate, R: Threads + Sync>(
 }
 
 /// Explores a script from its start in a mode, as `check` does, and lists the leaves of the report
-/// with what is asked for beside them. Refused as `check` is, but no write can fail. Requires a fuel
-/// of at most 1,000,000 steps. `gate` is told how far the exploration is, and of its end; nothing
-/// else depends on it.
+/// with what is asked for beside them. Refused as `check` is, but no write can fail. Requires a
+/// fuel of at most 1,000,000 steps. `gate` is told how far the exploration is, and of its end;
+/// nothing else depends on it.
 pub fn list_search<G: Gate, R: Threads + Sync>(
     crew: Crew<'_, R>,
     alloc: Global,
@@ -276,9 +277,9 @@ fn list_drawn<P: Watch>(
 
 /// Draws as many runs of the wide walk of a script from its start in a mode as the plan says, by a
 /// generator that is seeded with its number, and lists each different list of choices once, in
-/// order, with what is asked for beside it (docs/FORMATS.md, "Samples"). `Err` means that memory was
-/// refused. Requires a fuel of at most 1,000,000 steps. `watch` is told of each run that is drawn,
-/// and of the end; nothing else depends on it.
+/// order, with what is asked for beside it (docs/FORMATS.md, "Samples"). `Err` means that memory
+/// was refused. Requires a fuel of at most 1,000,000 steps. `watch` is told of each run that is
+/// drawn, and of the end; nothing else depends on it.
 pub fn list_sample<P: Watch>(
     alloc: Global,
     subject: Subject<'_>,

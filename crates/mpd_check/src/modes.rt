@@ -175,9 +175,9 @@ fn tally_in<G: Gate, R: Threads + Sync>(
 }
 
 /// Explores a script from its start in a mode, as `check` does, and returns what the report tells:
-/// how many runs it lists, how many of them end in a deadlock, with a trap, or cut, and whether there
-/// are more. Refused as `check` is, but no write can fail. Requires a fuel of at most 1,000,000
-/// steps.
+/// how many runs it lists, how many of them end in a deadlock, with a trap, or cut, and whether
+/// there are more. Refused as `check` is, but no write can fail. Requires a fuel of at most
+/// 1,000,000 steps.
 pub fn mode_tally<G: Gate, R: Threads + Sync>(
     crew: Crew<'_, R>,
     alloc: Global,

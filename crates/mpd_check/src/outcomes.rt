@@ -34,20 +34,21 @@ pub struct OutcomesPlan<'t> {
     pub limits: StateLimits,
     /// Whether each deadlock and each trap is explained.
     pub explain: bool,
-    /// The text of the script, the places of whose marks stand beside lines that are told (docs/FROM_A_RUN.md, "Marks").
+    /// The text of the script, the places of whose marks stand beside lines that are told
+    /// (docs/FROM_A_RUN.md, "Marks").
     pub script: &'t [u8],
 }
 
 /// The ways to end, with what is asked for beside them.
 #[derive(Drop)]
 pub struct OutcomesListing {
-    /// The ways, each with its first run, and the texts of the witnesses of these, if they are asked
-    /// for.
+    /// The ways, each with its first run, and the texts of the witnesses of these, if they are
+    /// asked for.
     pub outcomes: Outcomes,
     /// The end of each first run, if these are explained.
     pub ends: Vec<End>,
-    /// Where it was decided how each first run ends, if these are explained, and it is a deadlock or
-    /// a trap.
+    /// Where it was decided how each first run ends, if these are explained, and it is a deadlock
+    /// or a trap.
     pub blames: Vec<Option<PlacedBlame>>,
 }
 
@@ -131,8 +132,8 @@ fn list_there(
 
 /// Looks for the ways that the runs of the wide walk of a script end, from its start in a mode: for
 /// each how many runs end so, the first of them, and what is asked for of that (docs/FORMATS.md,
-/// "Outcomes"). If the limits name an end, these are of the runs up to the first that ends so. `Err`
-/// means that memory was refused. Requires a fuel of at most 1,000,000 steps.
+/// "Outcomes"). If the limits name an end, these are of the runs up to the first that ends so.
+/// `Err` means that memory was refused. Requires a fuel of at most 1,000,000 steps.
 pub fn list_outcomes(
     alloc: Global,
     subject: Subject<'_>,
@@ -181,7 +182,8 @@ fn push_beside(
     Ok(())
 }
 
-/// Adds the last line: how many ways to end there are, how many runs in all, and whether there are others.
+/// Adds the last line: how many ways to end there are, how many runs in all, and whether there are
+/// others.
 fn push_all(out: &mut String, outcomes: &Outcomes) -> Result<(), AllocError> {
     let more = if outcomes.firsts.more { "yes" } else { "no" };
     write!(out, "outcomes {} runs ", outcomes.firsts.leaves.len())?;
@@ -272,10 +274,10 @@ fn put_outcomes<W: Sink>(
     Ok(told.found)
 }
 
-/// Looks for the ways to end, and writes a line for each, with how many runs end so and the first of
-/// them, and with what is asked for after it; last, how many runs there are (docs/FORMATS.md,
-/// "Outcomes"). Returns what a report of the first runs would tell, how many of all runs end in each
-/// way, and how many states were visited. `WriteFailed` (46) comes only if a write failed, and
+/// Looks for the ways to end, and writes a line for each, with how many runs end so and the first
+/// of them, and with what is asked for after it; last, how many runs there are (docs/FORMATS.md,
+/// "Outcomes"). Returns what a report of the first runs would tell, how many of all runs end in
+/// each way, and how many states were visited. `WriteFailed` (46) comes only if a write failed, and
 /// `Memory` only before anything is written. Requires a fuel of at most 1,000,000 steps.
 pub fn check_outcomes<W: Sink>(
     alloc: Global,

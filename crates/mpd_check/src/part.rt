@@ -161,8 +161,8 @@ fn list_from_start<P: Watch>(
 /// Explores the runs of a script that the piece of a number has, and lists its part of the report:
 /// its leaves, with what is asked for beside them, and whether it has more. Refused if there are
 /// more than 1,024 pieces (31), or if no piece has the number; `Memory` means that memory was
-/// refused. Requires a fuel of at most 1,000,000 steps. `watch` is told of each leaf as it is found,
-/// and of the end; nothing else depends on it.
+/// refused. Requires a fuel of at most 1,000,000 steps. `watch` is told of each leaf as it is
+/// found, and of the end; nothing else depends on it.
 fn list_piece<P: Watch>(
     alloc: Global,
     subject: Subject<'_>,

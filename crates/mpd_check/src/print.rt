@@ -120,8 +120,8 @@ fn text_of(
     marked_if(alloc, telling.script, text, telling.explain)
 }
 
-/// Writes a listing, and returns what it tells. `WriteFailed` (46) comes only if a write failed, and
-/// `Memory` only before anything is written.
+/// Writes a listing, and returns what it tells. `WriteFailed` (46) comes only if a write failed,
+/// and `Memory` only before anything is written.
 pub fn put_listing<W: Sink>(
     alloc: Global,
     code: &Code,

@@ -29,8 +29,8 @@ fn choices_value(alloc: Global, runs: &Runs, number: usize) -> Result<Value, All
     }
 }
 
-/// Ends that are told together: of which kind they are, at which lines they stand, how many runs end
-/// so, and of these one.
+/// Ends that are told together: of which kind they are, at which lines they stand, how many runs
+/// end so, and of these one.
 fn group_value(
     alloc: Global,
     script: ToldScript<'_>,

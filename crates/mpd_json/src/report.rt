@@ -86,8 +86,8 @@ fn leaves_value(
     Ok(Value::Array(values))
 }
 
-/// A report by its leaves, as an object on a line. `is_whole` says whether it has every way in which
-/// the script can end. `Err` means that memory was refused, here and below.
+/// A report by its leaves, as an object on a line. `is_whole` says whether it has every way in
+/// which the script can end. `Err` means that memory was refused, here and below.
 pub fn listing_json(
     alloc: Global,
     script: ToldScript<'_>,

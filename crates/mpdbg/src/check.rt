@@ -34,7 +34,8 @@ const STATES_MAX: usize = 16_000_000;
 /// How many states are come to at most, kept or not.
 const VISITED_MAX: usize = 20_000_000;
 
-/// A script that is checked: its code in a mode, and its text, whose marks name places of a program.
+/// A script that is checked: its code in a mode, and its text, whose marks name places of a
+/// program.
 #[derive(Clone, Copy)]
 pub(crate) struct CheckedScript<'s> {
     pub(crate) subject: Subject<'s>,
@@ -58,8 +59,9 @@ enum Part {
     Outcomes,
 }
 
-/// What is looked at, by the words: several modes are asked for before all else, and how many pieces there are before one of them. What
-/// is drawn stands beside none of these, and the ways to end stand beside several modes alone.
+/// What is looked at, by the words: several modes are asked for before all else, and how many
+/// pieces there are before one of them. What is drawn stands beside none of these, and the ways to
+/// end stand beside several modes alone.
 fn part_of(options: CheckOptions) -> Part {
     if let Some(most) = options.modes {
         return Part::Modes(most);
@@ -304,7 +306,8 @@ fn ways_told<R: AllocGlobal, W: Sink>(
     }
 }
 
-/// Looks for the ways to end, and tells at a terminal what came of it and how many states were come to.
+/// Looks for the ways to end, and tells at a terminal what came of it and how many states were come
+/// to.
 fn check_ways<R: Eprint + AllocGlobal, W: Sink>(
     rt: &R,
     script: CheckedScript<'_>,
@@ -346,7 +349,8 @@ fn check_all<R: Clock + Eprint + Threads + Sync + AllocGlobal, W: Sink>(
     Ok(tally)
 }
 
-/// Explores one piece, and tells at a terminal how far that is, and what of it wasn't tried. That all of it was says nothing of others.
+/// Explores one piece, and tells at a terminal how far that is, and what of it wasn't tried. That
+/// all of it was says nothing of others.
 fn check_one<R: Clock + Eprint + AllocGlobal, W: Sink>(
     rt: &R,
     script: CheckedScript<'_>,
@@ -414,7 +418,8 @@ fn check_one_mode<R: Clock + Eprint + Threads + Sync + AllocGlobal, W: Sink>(
     Ok(tried.and(subject.mode, tally))
 }
 
-/// Looks at rendezvous, at 1 slot and more up to `most`, and at buffered, and tells at a terminal which modes list a deadlock or a trap.
+/// Looks at rendezvous, at 1 slot and more up to `most`, and at buffered, and tells at a terminal
+/// which modes list a deadlock or a trap.
 fn check_modes<R: Clock + Eprint + Threads + Sync + AllocGlobal, W: Sink>(
     rt: &R,
     code: &Code,
@@ -487,7 +492,8 @@ fn verdict_of<R: Clock + Eprint + Threads + Sync + AllocGlobal, W: Sink>(
     Ok(tally.verdict(options.complete, script.subject, is_wide(options)))
 }
 
-/// Looks for deadlocks and traps in a script, given its text too. The number of workers is tested first.
+/// Looks for deadlocks and traps in a script, given its text too. The number of workers is tested
+/// first.
 pub(crate) fn check_script<'a, R: Clock + Eprint + Threads + Sync + AllocGlobal, W: Sink>(
     rt: &R,
     subject: Subject<'_>,

@@ -1,4 +1,5 @@
-//! `mpdbg check --json`: what is found is written as JSON, an object on a line (docs/FORMATS.md, "JSON of reports").
+//! `mpdbg check --json`: what is found is written as JSON, an object on a line (docs/FORMATS.md,
+//! "JSON of reports").
 
 ghost use Rattle.std.specs.Prelude.{◌≤◌};
 

@@ -1,4 +1,5 @@
-//! `mpdbg diagnose`: whether the runs of a script can hang or trap, how, and where that was decided (docs/FORMATS.md, "Diagnosis").
+//! `mpdbg diagnose`: whether the runs of a script can hang or trap, how, and where that was decided
+//! (docs/FORMATS.md, "Diagnosis").
 
 ghost use Rattle.std.specs.Prelude.{◌≡◌, ◌≤◌, Some, None};
 ghost use Rattle.mpd_trace.specs.Ranks.{AreRanks};
@@ -26,8 +27,8 @@ const VISITED_MAX: usize = 4_000_000;
 /// How many runs are drawn, where there are more than that search comes to.
 const DRAWN: usize = 4_096;
 
-/// A script as a diagnosis tells of it: its text, whose marks stand beside lines, the name of its file, and how many ranks it has, if
-/// that is asked for.
+/// A script as a diagnosis tells of it: its text, whose marks stand beside lines, the name of its
+/// file, and how many ranks it has, if that is asked for.
 #[derive(Clone, Copy)]
 pub(crate) struct ToldScript<'s> {
     pub(crate) text: &'s [u8],
@@ -97,8 +98,8 @@ fn text_of(
     diagnosis_text(alloc, named, FUEL, diagnosis)
 }
 
-/// Says whether the runs of the script of a file can hang or trap, and answers the verdict; that calls can be left over counts where
-/// `strict` says so.
+/// Says whether the runs of the script of a file can hang or trap, and answers the verdict; that
+/// calls can be left over counts where `strict` says so.
 pub(crate) fn diagnose_script<'a, W: Sink>(
     alloc: Global,
     subject: Subject<'_>,
@@ -116,8 +117,9 @@ pub(crate) fn diagnose_script<'a, W: Sink>(
     Ok(verdict)
 }
 
-/// What is said of the runs of a script by a search with these limits, in lines of 80 columns at most: the first lines, which are told of
-/// all runs that it comes to. No step that decides is looked for, and no run is drawn.
+/// What is said of the runs of a script by a search with these limits, in lines of 80 columns at
+/// most: the first lines, which are told of all runs that it comes to. No step that decides is
+/// looked for, and no run is drawn.
 pub(crate) fn said_of<'a>(
     alloc: Global,
     subject: Subject<'_>,
@@ -152,7 +154,8 @@ fn write_told<'a, W: Sink>(sink: &mut W, told: &[u8]) -> Result<(), Fault<'a>> {
     Ok(())
 }
 
-/// A script that is diagnosed for several numbers of ranks: its text, which is that of a script, and how it is named.
+/// A script that is diagnosed for several numbers of ranks: its text, which is that of a script,
+/// and how it is named.
 #[derive(Clone, Copy)]
 pub(crate) struct SpannedScript<'s> {
     pub(crate) text: &'s [u8],
@@ -161,7 +164,8 @@ pub(crate) struct SpannedScript<'s> {
     pub(crate) telling: Telling,
 }
 
-/// Says what the runs of a script come to for a number of ranks, by a line, and answers the verdict.
+/// Says what the runs of a script come to for a number of ranks, by a line, and answers the
+/// verdict.
 fn diagnose_number<'a, W: Sink>(
     alloc: Global,
     script: SpannedScript<'_>,
@@ -199,8 +203,9 @@ fn add_flag(flags: &mut Vec<bool>, flag: bool) -> Result<(), AllocError> {
     Ok(())
 }
 
-/// Says by a line each what the runs of a script come to for several numbers of ranks, and then how to see more of the first that is bad.
-/// Answers what the verdicts come to. Each line is written as soon as it is known.
+/// Says by a line each what the runs of a script come to for several numbers of ranks, and then how
+/// to see more of the first that is bad. Answers what the verdicts come to. Each line is written as
+/// soon as it is known.
 pub(crate) fn diagnose_each<'a, W: Sink>(
     alloc: Global,
     script: SpannedScript<'_>,
@@ -265,8 +270,9 @@ pub(crate) struct ToldInModes<'s> {
     pub(crate) form: Form,
 }
 
-/// Says by a line each what the runs of a script come to in rendezvous, with 1 slot and more up to `most`, and in buffered, and then how to
-/// see more of the worst mode. Answers what the verdicts come to. Each line is written as soon as it is known.
+/// Says by a line each what the runs of a script come to in rendezvous, with 1 slot and more up to
+/// `most`, and in buffered, and then how to see more of the worst mode. Answers what the verdicts
+/// come to. Each line is written as soon as it is known.
 pub(crate) fn diagnose_modes<'a, W: Sink>(
     alloc: Global,
     code: &Code,
