@@ -19,6 +19,7 @@ use Rattle.mpd_policy.specs.declared.ending.Ending.TheVariants.{Ended}
 use Rattle.mpd_outcomes.specs.declared.report.Count.TheVariants.{Exactly}
 use Rattle.mpd_policy.specs.Walk.{run_by}
 use Rattle.mpd_explore.specs.Sleeping.{awake_by}
+use Rattle.mpd_explore.specs.declared.report.SearchLeaf.{SearchLeaf}
 use Rattle.mpd_runs.specs.declared.search.WholeRun.{WholeRun}
 use Rattle.mpd_runs.specs.declared.way.Way.{Way}
 use Rattle.mpd_runs.specs.declared.way.Way.TheVariants as way
@@ -69,9 +70,16 @@ unfolding awake_by wide_decision run_by
 row_found = refl
 
 -- both are listed, the one that takes the second send first
-pub row_listed : (first_runs 9 9 begun, are_more 9 9 begun) ≡ (record { choices = 0 ∷ 0 ∷ []; ending = stuck.ending } ∷ record { choices = 1 ∷ []; ending = left_over.ending } ∷ [], false)
+abbrev a_leaf : List ℕ → WholeRun → SearchLeaf
+a_leaf choices r = record { choices = choices; ending = r.ending }
+
+pub row_listed : first_runs 9 9 begun ≡ a_leaf (0 ∷ 0 ∷ []) stuck ∷ a_leaf (1 ∷ []) left_over ∷ []
 unfolding awake_by wide_decision
 row_listed = refl
+
+pub row_no_more : are_more 9 9 begun ≡ false
+unfolding awake_by wide_decision
+row_no_more = refl
 
 -- so many runs at most, and so much fuel: all of them are counted, one where there are more, and one that is cut where the choice is
 abbrev ends : ℕ → ℕ → ℕ → ℕ → Bool → WayCounts
