@@ -1,5 +1,5 @@
 #!/usr/bin/env python3
-"""Draws every state of fifteen pages in a browser, forward and back, by keys, clicks and the slider, and takes a screenshot of each.
+"""Draws every state of sixteen pages in a browser, forward and back, by keys, clicks and the slider, and takes a screenshot of each.
 
     page/try_pages.py PROGRAM                  of pages that PROGRAM makes
     page/try_pages.py PROGRAM --keep FOLDER    pages and screenshots stay there
@@ -38,15 +38,16 @@ PAGES = (('stolen_message', ('examples/stolen_message.mpd',), '#run=0&step=9'), 
          ('lost', ('examples/lost_request.mpd',), '#run=0&step=99'), ('slots', ('examples/freed_slot.mpd', '--mode', 'slots:2'), '#run=0&step=99'),
          ('sixteen', ('examples/one_in_seven.mpd', '--ranks', '16', '--choices', '3'), '#run=0&step=60'),
          ('signs', ('signs.mpd', '--mode', 'buffered'), '#run=0&step=5'), ('two', ('two.mpd',), '#run=0&step=8'),
-         ('cut', ('examples/stolen_message.mpd', '--fuel', '8'), '#run=0&step=8'),
+         ('long', ('long.mpd', '--runs', '1'), '#run=0&step=90'), ('cut', ('examples/stolen_message.mpd', '--fuel', '8'), '#run=0&step=8'),
          ('few', ('examples/one_in_seven.mpd', '--ranks', '16', '--choices', '14', '--states', '2'), '#run=0&step=999'))
-# Scripts of these pages: one whose text has signs of HTML, and one in which a rank waits for two calls.
+# Scripts of these pages: one whose text has signs of HTML, one in which a rank waits for two calls, and one whose tree is wider than its pane.
 SIGNS = (b'mpd 1;\r\nranks 2;\r\nvar x;\r\n#\t</script><!-- "\\ &lt; \r x\r\n'
          b'if rank == 0 { send -5 to 1 tag 7; send 6 to 0 tag 2; } else { recv x from 0 tag 7; }\r\n')
 TWO = (b'mpd 2;\nranks 3;\nvar first;\nvar second;\nvar which;\nreq answers[2];\nif rank == 0 {\n  irecv answers[0] first from 1 tag any;\n'
        b'  irecv answers[1] second from 2 tag any;\n  waitany answers to which;\n} else {\n  if rank == 2 { recv first from 1 tag 3; }\n'
        b'  isend answers[0] rank * 1000000 to 0 tag 1234;\n  wait answers[0];\n}\n')
-SCRIPTS = {'signs.mpd': SIGNS, 'two.mpd': TWO}
+LONG = b'mpd 1;\nranks 3;\nvar x;\nif rank == 0 {\n' + b'  recv x from any tag 0;\n' * 36 + b'} else {\n' + b'  send rank to 0 tag 0;\n' * 18 + b'}\n'
+SCRIPTS = {'signs.mpd': SIGNS, 'two.mpd': TWO, 'long.mpd': LONG}
 
 # What is done in the browser, at the end of a page: it leaves what it has found as text in the place of the page.
 TRIAL = r'''
@@ -79,10 +80,14 @@ TRIAL = r'''
     const forever = k === last() && !covered && ends[endOf()].outcome !== 'cut' ? S.place.filter(place => place[1] === 'blocked').length : 0;
     if (stops !== forever) wrong(`${how}: ${stops} signs at step ${k}, not ${forever}`);
     if (!el('aloud').textContent !== (el('choice').hidden && el('told').hidden)) wrong(`${how}: what is said aloud at step ${k}`);
+    const tree = el('tree').getBoundingClientRect(), ahead = el('treepane').hidden ? null : run.slice(k).find(i => isChoice(i) || endAt.has(i));
+    const mark = ahead !== null && document.querySelector(`#tree [data-node="${ahead}"] path, #tree [data-end="${endOf()}"] .mid`);
+    if (mark && (mark.getBoundingClientRect().right < tree.left || mark.getBoundingClientRect().left > tree.right)) wrong(`${how}: the tree doesn't show step ${k}`);
     if (ends[endOf()].outcome === 'cut' && el('table').textContent.includes('nothing fits')) wrong(`${how}: nothing fits where the run goes on`);
   }
   function expect(what, how) { if (!what) wrong(how); look(how); }
   try {
+    expect(inOrder([0, 1, 2, 3, 4], [[0, 2], [2, 1], [1, 3], [3, 0], [4, 0]]).join() === '0,2,1,3,4', 'ranks of a cycle stand in its order');
     expect(!D.hide || endOf() === 0 && k === 0, 'a page whose ends are covered begins with its first run');
     for (let e = 0; e < ends.length; e++) {
       const sign = document.querySelector(`[data-end="${e}"]`);

@@ -79,7 +79,7 @@ mark { background: var(--mark); color: inherit; border-bottom: 2px solid var(--i
 #choice button.on { background: var(--tint); border: 2px solid var(--choice); font-weight: 700; }\n\
 #choice button > :last-child { margin-left: auto; white-space: nowrap; font-weight: 400; }\n\
 #choice button:disabled { flex-wrap: wrap; } #choice button:disabled > :last-child { flex-basis: 100%; margin: 0 0 0 1.6rem; white-space: normal; }\n\
-.told { display: flex; gap: .8rem; align-items: center; }\n\
+.told { display: flex; gap: .8rem; align-items: flex-start; }\n\
 .told > div { flex: 1; }\n\
 .told p { padding-left: 2ch; text-indent: -2ch; }\n\
 button { font: inherit; color: inherit; background: var(--paper); border: 1px solid var(--soft); border-radius: .35rem; cursor: pointer; }\n\
@@ -92,6 +92,7 @@ footer button { padding: .25rem .6rem; font-weight: 700; }\n\
 #marks { position: absolute; left: 8px; right: 8px; top: 0; }\n\
 #marks span { position: absolute; transform: translateX(-50%); cursor: pointer; font-size: .95rem; line-height: 1.2; } #marks .choice { color: var(--choice); }\n\
 @media (max-width: 1240px) { footer { grid-template-columns: auto minmax(0, 1fr); } #keys { grid-column: 1 / -1; } }\n\
+@media (max-height: 600px) { #lanes { max-height: 22vh; } }\n\
 @media print { :root { color-scheme: light; font-size: 11pt; } html, body { height: auto; } body, main, .side { display: block; background: #fff; } footer, #treepane, #table { display: none; }\n\
 \x20 .pane { border: 0; overflow: visible; max-height: none !important; break-inside: avoid; } #lanes svg { width: 100%; height: auto; } * { print-color-adjust: exact; } }\n\
 </style>\n\
@@ -126,6 +127,15 @@ function keepFocus(draw) {\n\
 }\n\
 // What is said aloud of a choice and of an end.\n\
 const sayAloud = () => el('aloud').textContent = ['choice', 'told'].filter(id => !el(id).hidden).map(id => el(id).querySelector('h3, p').textContent).join('. ');\n\
+// The address holds the moment.\n\
+function note() {\n\
+\x20 history.replaceState(null, '', `#run=${endOf()}&step=${k}`);\n\
+}\n\
+// Takes a candidate of the choice that is shown.\n\
+function take(c) {\n\
+\x20 const i = run[k], j = isChoice(i) && nodes[i].k[c] ? taken(i, c) : undefined;\n\
+\x20 if (j !== undefined) choose(under[j].includes(endOf()) ? endOf() : under[j][0], k + 1);\n\
+}\n\
 // To the next step of which something holds; else to the end.\n\
 function goNext(holds) {\n\
 \x20 const d = facts.findIndex((fact, d) => d > k && holds(fact));\n\
@@ -133,6 +143,12 @@ function goNext(holds) {\n\
 }\n\
 // Whether a step is one of rank p, as that of all ranks is; of no rank in particular each step is one.\n\
 const isOf = (fact, p) => p === undefined || fact.rank === undefined || fact.rank === p || fact.kind === 'match' && two(fact.send)[0] === p;\n\
+// Ranks so that one stands next to the one that it waits for: a cycle stands in its order.\n\
+function inOrder(ranks, edges) {\n\
+\x20 const found = [];\n\
+\x20 for (let p of ranks) while (p !== undefined && !found.includes(p)) { found.push(p); p = (edges.find(([a, b]) => a === p && !found.includes(b)) || [])[1]; }\n\
+\x20 return found;\n\
+}\n\
 // The moment that is nearest to a place in the lanes.\n\
 function momentAt(event) {\n\
 \x20 const svg = event.target.closest('#lanes svg'), x = svg && (event.clientX - svg.getBoundingClientRect().left) / unit;\n\
@@ -255,13 +271,6 @@ function go(depth) {\n\
 \x20 clearTimeout(later);\n\
 \x20 later = setTimeout(note, 200); // browsers refuse many at once\n\
 }\n\
-function note() {\n\
-\x20 history.replaceState(null, '', `#run=${endOf()}&step=${k}`);\n\
-}\n\
-function take(c) {\n\
-\x20 const i = run[k], j = isChoice(i) && nodes[i].k[c] ? taken(i, c) : undefined;\n\
-\x20 if (j !== undefined) choose(under[j].includes(endOf()) ? endOf() : under[j][0], k + 1);\n\
-}\n\
 // The step that decides: of this run, or else of another that goes the same way up to there.\n\
 function deciding() {\n\
 \x20 for (const end of [ends[endOf()], ...ends])\n\
@@ -288,15 +297,15 @@ function source() {\n\
 }\n\
 \n\
 // ---- lanes: time goes to the right, a lane for each rank\n\
-const TOP = 36, NAME = N > 10 ? 80 : 64;\n";
-
-/// What stands after the data: part 3 of 8.
-pub const TAIL_2: &str = "\
+const TOP = 36, NAME = N > 10 ? 80 : 64;\n\
 let xs = [], gap = 60, wide = 60, unit = 1;\n\
 \n\
 // The place of each step: those that show something get more room.\n\
 function layout() {\n\
-\x20 unit = parseFloat(getComputedStyle(document.documentElement).fontSize) / 16;\n\
+\x20 unit = parseFloat(getComputedStyle(document.documentElement).fontSize) / 16;\n";
+
+/// What stands after the data: part 3 of 8.
+pub const TAIL_2: &str = "\
 \x20 const room = Math.max(300, el('lanes').clientWidth / unit - NAME - 60), many = facts.slice(1).filter(shows).length, few = last() - many;\n\
 \x20 const small = Math.min(14, Math.max(7, room / (many * 3.5 + few + 1)));\n\
 \x20 wide = Math.min(78, Math.max(34, (room - few * small) / Math.max(1, many)));\n\
@@ -344,11 +353,11 @@ function lanes() {\n\
 \x20   } else if (fact.kind === 'match') {\n\
 \x20     const send = issued[fact.send], value = send.text.split(' ')[6];\n\
 \x20     send.to = issued[fact.receive].to = x;\n\
-\x20     if (seen(send.x, x)) {\n";
+\x20     if (seen(send.x, x)) {\n\
+\x20       const lx = send.x + (x - send.x) * .5, ly = laneY(send.p) + (y - laneY(send.p)) * .5 + (send.p === p ? gap * .5 : 0), w = 8 * value.length + 8;\n";
 
 /// What stands after the data: part 4 of 8.
 pub const TAIL_3: &str = "\
-\x20       const lx = send.x + (x - send.x) * .5, ly = laneY(send.p) + (y - laneY(send.p)) * .5 + (send.p === p ? gap * .5 : 0), w = 8 * value.length + 8;\n\
 \x20       over.push(svgGroup(send.p, `${fact.send} to ${fact.receive}: ${message(send)}`, arrow(send.x, laneY(send.p), x, y) + `<rect x=\"${lx - w / 2}\" y=\"${ly - 8}\" width=\"${w}\" height=\"16\" rx=\"4\" class=\"open\" style=\"stroke-width:1\"/>` + svgText(lx, ly + 4, value, 'mid bold'), isNew, d));\n\
 \x20     }\n\
 \x20   } else if (fact.kind === 'release') {\n\
@@ -392,11 +401,11 @@ function follow() {\n\
 \n\
 // ---- the choice, and the step that decides\n\
 const SIGN = { done: '\\u2714', leftovers: '\\u25b2', cut: '\\u2026', deadlock: '\\u2716', trap: '\\u2716' };\n\
-const wordOf = outcome => outcome.split(' ')[0];\n";
+const wordOf = outcome => outcome.split(' ')[0];\n\
+const kindOf = outcome => /^(deadlock|trap)/.test(outcome) ? 'bad' : wordOf(outcome) === 'done' ? 'good' : 'warn';\n";
 
 /// What stands after the data: part 5 of 8.
 pub const TAIL_4: &str = "\
-const kindOf = outcome => /^(deadlock|trap)/.test(outcome) ? 'bad' : wordOf(outcome) === 'done' ? 'good' : 'warn';\n\
 const sign = outcome => covered ? '?' : `<b class=\"${kindOf(outcome)}\">${SIGN[wordOf(outcome)]}</b> ${wordOf(outcome)}`;\n\
 \n\
 function howEnds(list) {\n\
@@ -446,12 +455,12 @@ function waitGraph(lines) {\n\
 \x20   return found ? [...found[2].matchAll(/rank (\\d+)( \\(ended\\))?/g)].map(m => [+found[1], +m[1], !!m[2]]) : [];\n\
 \x20 });\n\
 \x20 if (!edges.length) return '';\n\
-\x20 const ranks = [...new Set(edges.flatMap(([a, b]) => [a, b]))].sort((a, b) => a - b), R = 26 + 6 * ranks.length, C = R + 30, at = {};\n";
+\x20 const ranks = inOrder([...new Set(edges.flatMap(([a, b]) => [a, b]))].sort((a, b) => a - b), edges), R = 26 + 6 * ranks.length, C = R + 30, at = {};\n\
+\x20 ranks.forEach((p, i) => { const turn = 2 * Math.PI * i / ranks.length - Math.PI / 2; at[p] = [C + R * Math.cos(turn), C + R * Math.sin(turn)]; });\n\
+\x20 const edge = ([a, b, isOver]) => {\n";
 
 /// What stands after the data: part 6 of 8.
 pub const TAIL_5: &str = "\
-\x20 ranks.forEach((p, i) => { const turn = 2 * Math.PI * i / ranks.length - Math.PI / 2; at[p] = [C + R * Math.cos(turn), C + R * Math.sin(turn)]; });\n\
-\x20 const edge = ([a, b, isOver]) => {\n\
 \x20   const [x1, y1] = at[a], [x2, y2] = at[b], far = Math.hypot(x2 - x1, y2 - y1) || 1, ux = (x2 - x1) / far, uy = (y2 - y1) / far, off = edges.some(([c, d]) => c === b && d === a) ? 6 : 0;\n\
 \x20   if (a === b) return `<circle cx=\"${x1 + 15}\" cy=\"${y1 - 13}\" r=\"10\" class=\"arrow\" style=\"--c:var(--ink)\"/>`;\n\
 \x20   const px = x2 - 17 * ux - off * uy, py = y2 - 17 * uy + off * ux, tip = side => `${px - 9 * ux + side * 4.5 * uy} ${py - 9 * uy - side * 4.5 * ux}`;\n\
@@ -496,12 +505,12 @@ function table() {\n\
 \x20   ['printed', p => S.printed[p].map((value, i) => marked(`o${p}.${i}`, value)).join(' '), +nodes.some(node => node.o)],\n\
 \x20 ].filter(column => column[2] !== 0);\n\
 \x20 const rows = S.place.map((_, p) => `<tr>${columns.map(([, show]) => `<td>${show(p)}</td>`).join('')}</tr>` +\n\
-\x20   (S.why[p] ? `<tr class=\"why soft\"><td></td><td colspan=\"${columns.length - 1}\">${whyText(p)}</td></tr>` : ''));\n";
+\x20   (S.why[p] ? `<tr class=\"why soft\"><td></td><td colspan=\"${columns.length - 1}\">${whyText(p)}</td></tr>` : ''));\n\
+\x20 el('table').innerHTML = `<caption>Ranks (what the last step changed is underlined)</caption><tr>${columns.map(([name]) => `<th scope=\"col\">${name}</th>`).join('')}</tr>${rows.join('')}`;\n\
+}\n";
 
 /// What stands after the data: part 7 of 8.
 pub const TAIL_6: &str = "\
-\x20 el('table').innerHTML = `<caption>Ranks (what the last step changed is underlined)</caption><tr>${columns.map(([name]) => `<th scope=\"col\">${name}</th>`).join('')}</tr>${rows.join('')}`;\n\
-}\n\
 // Why a rank waits: for each call that it waits for, with what that can be matched.\n\
 function whyText(p) {\n\
 \x20 const calls = S.calls[p], own = `<code>${esc(named(calls[calls.length - 1].text, p))}</code>`, isEnd = k === last() && !covered && ends[endOf()].outcome !== 'cut';\n\
@@ -557,6 +566,7 @@ pub const TAIL_7: &str = "\
 \x20 el('tree').innerHTML = `<svg width=\"${(X({ deep }) + tail) * unit}\" height=\"${(rows * 23 + 8) * unit}\" viewBox=\"0 0 ${X({ deep }) + tail} ${rows * 23 + 8}\" role=\"group\"><title>Runs by their choices: ${ends.length}</title>${parts.join('')}</svg>` + (D.more ? '<p class=\"soft\" style=\"font-size:.85rem;padding:0 .7rem .3rem\">there are more runs than these</p>' : '');\n\
 \x20 const mine = points.find(t => endAt.get(t.node) === endOf()), box = el('tree'), y = Y(mine) * unit;\n\
 \x20 if (y < box.scrollTop || y > box.scrollTop + box.clientHeight - 15) box.scrollTop = y - box.clientHeight / 2;\n\
+\x20 box.scrollLeft = X(points.find(t => on.has(t.node) && run.indexOf(t.node) >= k)) * unit - box.clientWidth / 2;\n\
 }\n\
 function marks() {\n\
 \x20 const found = covered ? null : deciding(), at = (d, kind, text, title) => `<span class=\"${kind}\" data-step=\"${d}\" style=\"left:${100 * d / Math.max(1, last())}%\" title=\"${title}\">${text}</span>`, outcome = ends[endOf()].outcome;\n\
@@ -610,8 +620,7 @@ function begin() {\n\
 \x20 el('lanes').addEventListener('scroll', () => requestAnimationFrame(lanes));\n\
 \x20 addEventListener('hashchange', come);\n\
 \x20 addEventListener('resize', () => { layout(); go(k); });\n\
-\x20 addEventListener('beforeprint', () => { printing = true; lanes(); });\n\
-\x20 addEventListener('afterprint', () => { printing = false; lanes(); });\n\
+\x20 for (const when of ['before', 'after']) addEventListener(`${when}print`, () => { printing = when === 'before'; lanes(); });\n\
 }\n\
 if (D) begin();\n\
 </script>\n\
