@@ -33,12 +33,18 @@ NO_JSON = ('--piece', '--pieces')
 MUST_MEET = (
     'leaves', 'groups', 'outcomes', 'mode', 'least', 'diagnosis', 'refused', 'status 0', 'status 1', 'status 2', 'status 4', 'done', 'leftovers', 'deadlock',
     'trap', 'cut', 'a witness', 'a near miss', 'a call that is taken', 'a request', 'an absence', 'a rank that has ended', 'a cycle', 'a call that is left over',
-    'what a trap read', 'decided at', 'decided from_start', 'runs that are drawn', 'more', 'a part without JSON')
+    'what a trap read', 'decided at', 'decided from_start', 'more', 'a part without JSON')
 
 
 def said(chosen, words_in):
-    """What the program says to words, as JSON."""
-    return driving.said_by_program(chosen, 'as-json-', lambda folder: (*words_in(folder), '--json'))
+    """What the program says to words, as JSON; and these words."""
+    words = []
+
+    def asked(folder):
+        words[:] = [*words_in(folder), '--json']
+        return tuple(words)
+
+    return driving.said_by_program(chosen, 'as-json-', asked), words
 
 
 # ---- what was met
@@ -51,7 +57,7 @@ def met_of_end(end):
         yield from ['a request'] * len(wait['requests']) + ['an absence'] * len(wait['absent'])
         yield from ['a rank that has ended'] * any(at['has_ended'] for at in wait['awaited'])
     yield from ['a cycle'] * len(end.get('cycles', ())) + ['a call that is left over'] * len(end.get('left', ()))
-    yield from ['what a trap read'] * sum(len(trap['reads']) for trap in end.get('traps', ()))
+    yield from ['what a trap read'] * sum(len(trap.get('reads', ())) for trap in end.get('traps', ()))
 
 
 def met_in(told):
@@ -61,9 +67,9 @@ def met_in(told):
             yield from met_in(one)
     if not isinstance(told, dict):
         return
-    yield from [told['report']] * ('report' in told) + [told['ends']] * ('ends' in told)
+    yield from [told[key] for key in ('report', 'ends') if key in told]
     yield from ['a witness'] * (told.get('witness') is not None) + ['more'] * (told.get('more') is True)
-    yield from [f'decided {told["decided"]}'] * isinstance(told.get('decided'), str) + ['runs that are drawn'] * (told.get('drawn') is not None)
+    yield from [f'decided {told.get("decided")}'] * isinstance(told.get('decided'), str) + ['runs that are drawn'] * (told.get('drawn') is not None)
     yield from met_of_end(told)
     for one in told.values():
         yield from met_in(one)
@@ -80,8 +86,7 @@ def wrong_check(case, result, wanted, is_wide):
 def wrong_of(chosen, case, tests, met):
     """What is wrong with what is said to a case, by what tests it; None where nothing is."""
     wanted = case.wanted()
-    words = case.words('')
-    result = said(chosen, case.words)
+    result, words = said(chosen, case.words)
     met.update(['compared', f'status {result.status}'])
     if any(word in NO_JSON for word in words):
         met['a part without JSON'] += 1
