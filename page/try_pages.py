@@ -1,12 +1,13 @@
 #!/usr/bin/env python3
-"""Draws every state of fifteen pages in a browser, forward and back, by keys, clicks and the slider, and takes a screenshot of each.
+"""Draws every state of sixteen pages in a browser, forward and back, by keys, clicks and the slider, and takes a screenshot of each.
 
     page/try_pages.py PROGRAM                  of pages that PROGRAM makes
     page/try_pages.py PROGRAM --keep FOLDER    pages and screenshots stay there
     page/try_pages.py PROGRAM --size 1024,768 --dark
 
 A state must be drawn alike on the way there and back, its table must fit the window's width, and the browser must hold what the changes of
-the data give by docs/PAGES.md, as compare/runs/pages.py applies them. The browser is Chromium without a window; where none is there,
+the data give by docs/PAGES.md, as compare/runs/pages.py applies them. A rank has the sign of one that waits for ever only where no step is enabled.
+What is drawn anew keeps the focus, a choice and an end are said aloud, and a click on a call, an arrow or a lane goes to its moment. The browser is Chromium without a window; where none is there,
 *skipped* is written, and the status is 0. Else it is 0 where nothing was wrong.
 """
 
@@ -37,15 +38,16 @@ PAGES = (('stolen_message', ('examples/stolen_message.mpd',), '#run=0&step=9'), 
          ('lost', ('examples/lost_request.mpd',), '#run=0&step=99'), ('slots', ('examples/freed_slot.mpd', '--mode', 'slots:2'), '#run=0&step=99'),
          ('sixteen', ('examples/one_in_seven.mpd', '--ranks', '16', '--choices', '3'), '#run=0&step=60'),
          ('signs', ('signs.mpd', '--mode', 'buffered'), '#run=0&step=5'), ('two', ('two.mpd',), '#run=0&step=8'),
-         ('cut', ('examples/stolen_message.mpd', '--fuel', '8'), '#run=0&step=8'),
+         ('long', ('long.mpd', '--runs', '1'), '#run=0&step=90'), ('cut', ('examples/stolen_message.mpd', '--fuel', '8'), '#run=0&step=8'),
          ('few', ('examples/one_in_seven.mpd', '--ranks', '16', '--choices', '14', '--states', '2'), '#run=0&step=999'))
-# Scripts of these pages: one whose text has signs of HTML, and one in which a rank waits for two calls.
+# Scripts of these pages: one whose text has signs of HTML, one in which a rank waits for two calls, and one whose tree is wider than its pane.
 SIGNS = (b'mpd 1;\r\nranks 2;\r\nvar x;\r\n#\t</script><!-- "\\ &lt; \r x\r\n'
          b'if rank == 0 { send -5 to 1 tag 7; send 6 to 0 tag 2; } else { recv x from 0 tag 7; }\r\n')
 TWO = (b'mpd 2;\nranks 3;\nvar first;\nvar second;\nvar which;\nreq answers[2];\nif rank == 0 {\n  irecv answers[0] first from 1 tag any;\n'
        b'  irecv answers[1] second from 2 tag any;\n  waitany answers to which;\n} else {\n  if rank == 2 { recv first from 1 tag 3; }\n'
        b'  isend answers[0] rank * 1000000 to 0 tag 1234;\n  wait answers[0];\n}\n')
-SCRIPTS = {'signs.mpd': SIGNS, 'two.mpd': TWO}
+LONG = b'mpd 1;\nranks 3;\nvar x;\nif rank == 0 {\n' + b'  recv x from any tag 0;\n' * 36 + b'} else {\n' + b'  send rank to 0 tag 0;\n' * 18 + b'}\n'
+SCRIPTS = {'signs.mpd': SIGNS, 'two.mpd': TWO, 'long.mpd': LONG}
 
 # What is done in the browser, at the end of a page: it leaves what it has found as text in the place of the page.
 TRIAL = r'''
@@ -74,10 +76,18 @@ TRIAL = r'''
     if (+el('slider').value !== k) wrong(`${how}: the slider`);
     const pane = el('table').parentElement;
     if (pane.scrollWidth > pane.clientWidth + 1) wrong(`${how}: the table of step ${k} is wider than the window`);
+    const stops = [...document.querySelectorAll('#lanes title')].filter(title => /is blocked$/.test(title.textContent)).length;
+    const forever = k === last() && !covered && ends[endOf()].outcome !== 'cut' ? S.place.filter(place => place[1] === 'blocked').length : 0;
+    if (stops !== forever) wrong(`${how}: ${stops} signs at step ${k}, not ${forever}`);
+    if (!el('aloud').textContent !== (el('choice').hidden && el('told').hidden)) wrong(`${how}: what is said aloud at step ${k}`);
+    const tree = el('tree').getBoundingClientRect(), ahead = el('treepane').hidden ? null : run.slice(k).find(i => isChoice(i) || endAt.has(i));
+    const mark = ahead !== null && document.querySelector(`#tree [data-node="${ahead}"] path, #tree [data-end="${endOf()}"] .mid`);
+    if (mark && (mark.getBoundingClientRect().right < tree.left || mark.getBoundingClientRect().left > tree.right)) wrong(`${how}: the tree doesn't show step ${k}`);
     if (ends[endOf()].outcome === 'cut' && el('table').textContent.includes('nothing fits')) wrong(`${how}: nothing fits where the run goes on`);
   }
   function expect(what, how) { if (!what) wrong(how); look(how); }
   try {
+    expect(inOrder([0, 1, 2, 3, 4], [[0, 2], [2, 1], [1, 3], [3, 0], [4, 0]]).join() === '0,2,1,3,4', 'ranks of a cycle stand in its order');
     expect(!D.hide || endOf() === 0 && k === 0, 'a page whose ends are covered begins with its first run');
     for (let e = 0; e < ends.length; e++) {
       const sign = document.querySelector(`[data-end="${e}"]`);
@@ -91,11 +101,32 @@ TRIAL = r'''
         el('slider').dispatchEvent(new Event('input'));
         expect(k === d, 'the slider');
       }
-      for (const [name, to] of [['start', 0], ['on', Math.min(1, last())], ['back', 0], ['end', last()]]) {
+      for (const [name, to] of [['Home', 0], ['ArrowRight', Math.min(1, last())], ['ArrowLeft', 0], ['End', last()]]) {
         click(document.querySelector(`[data-go="${name}"]`));
         expect(k === to, name);
       }
       press('b'); look('b');
+      const byKey = key => { press('Home'); const found = []; do { press(key); found.push(k); } while (k < last()); return found.join(' '); };
+      const byButton = key => { press('Home'); const found = []; do { click(document.querySelector(`[data-go="${key}"]`)); found.push(k); } while (k < last()); return found.join(' '); };
+      const matches = facts.flatMap((fact, d) => fact && fact.kind === 'match' ? [d] : []), steps = k => facts.flatMap((fact, d) => fact && isOf(fact, k) ? [d] : []);
+      const toEnd = list => [...new Set([...list, last()])].join(' ');
+      expect(byKey('m') === toEnd(matches) && byButton('m') === toEnd(matches), 'm');
+      press('Home'); press('r'); expect(k === [...steps(0), last()][0], 'r at the start');
+      for (let d = 1; d <= last(); d++) { go(d); press('r'); expect(k === [...steps(facts[d].rank).filter(e => e > d), last()][0], 'r'); }
+      expect(byButton('c') === byKey('c'), 'c by its button');
+      for (const part of [...document.querySelectorAll('#lanes [data-step]')].map(part => part.dataset.step)) {
+        press('End');
+        click(document.querySelector(`#lanes [data-step="${part}"]`));
+        expect(k === +part, 'a click in the lanes');
+      }
+      for (let d = 0; d <= last(); d += 4) {
+        go(d);
+        const svg = document.querySelector('#lanes svg'), x = svg.getBoundingClientRect().left + xs[d] * unit;
+        svg.dispatchEvent(new MouseEvent('click', { bubbles: true, clientX: x }));
+        expect(k === d, 'a click on a lane');
+      }
+      const token = (press('End'), document.querySelector('#table [data-step]')), name = token && token.title.split(' ')[2];
+      if (token) { click(token); expect(facts[k].call === name, 'a click on a call of the table'); }
       for (const d of [...document.querySelectorAll('#marks [data-step]')].map(mark => +mark.dataset.step)) {
         click(document.querySelector(`#marks [data-step="${d}"]`));
         expect(k === d, 'a mark');
@@ -104,7 +135,8 @@ TRIAL = r'''
       for (const d of choices().filter(d => d > 0)) { press('c'); expect(k === d, 'c'); }
       press('End');
       for (const d of choices().reverse().filter(d => d < last())) { press('u'); expect(k === d, 'u'); }
-      for (const d of choices()) for (let c = 0; c < nodes[run[d]].k.length; c++) for (const by of ['key', 'click']) {
+      const own = run;
+      for (const d of choices()) for (let c = 0; c < nodes[own[d]].k.length; c++) for (const by of ['key', 'click']) {
         choose(e, d);
         const to = taken(run[d], c), button = document.querySelector(`[data-take="${c}"]`);
         if (by === 'key' && c < 9) press(String(c + 1)); else click(button);
@@ -114,6 +146,13 @@ TRIAL = r'''
     for (const at of [...document.querySelectorAll('[data-node]')].map(node => +node.dataset.node)) {
       click(document.querySelector(`[data-node="${at}"]`));
       expect(run[k] === at, 'a click on a choice');
+      choose(0, 0);
+      const again = document.querySelector(`[data-node="${at}"]`);
+      again.focus();
+      again.dispatchEvent(new KeyboardEvent('keydown', { key: 'Enter', bubbles: true, cancelable: true }));
+      expect(run[k] === at && document.activeElement.dataset.node === String(at), 'a choice of the tree by Tab and Enter');
+      const button = document.querySelector('[data-take]:not([disabled])');
+      if (button) { button.focus(); click(button); expect(document.activeElement !== document.body, 'the focus stays at a choice'); }
     }
     press('h'); look('h'); press('h'); look('h again');
     printing = true; lanes(); printing = false; lanes();

@@ -62,7 +62,7 @@ LEFT_OUT = {
         **dict.fromkeys(('seek', 'numbered_run', 'last_choice', 'last_stop', 'name', 'push_runs', 'push_none', 'push_ahead', 'push_count', 'push_no_run',
                          'push_no_choice'), BY_WORDS)},
     'mpd_explain': {
-        'text_at': 'called by check_outcomes', **dict.fromkeys(('firsts', 'explanation_at'), 'called by print_grouped'),
+        'push_end': 'called by check_listing',
         'calls_name_their_statements': 'a law',
         **dict.fromkeys(('push_wish', 'push_helps', 'push_all_absent', 'push_told', 'requests', 'push_calls', 'push_enabled', 'push_history',
                          'push_queues', 'push_ranks', 'push_standing', 'push_step', 'push_candidate', 'push_why', 'push_why_rank', 'push_why_ranks',

@@ -46,24 +46,15 @@ def explanations():
         yield Row('explain_all', script, lines, '10 100 ends', mode)
 
 
-def printed(beside):
-    """The call that prints a report with what is asked for beside leaves."""
-    return 'print_grouped' if 'group' in beside else 'print_explained'
-
-
 def reports():
     for beside in ('', 'witnesses', 'explain', 'witnesses explain', 'group', 'group witnesses', 'group explain witnesses'):
-        yield Row(printed(beside), RACE, (), f'10 100 {beside}'.rstrip())
         yield Row('check_listing', RACE, (), f'2 1 10 100 {beside}'.rstrip(), most=FEW)
     yield Row('check_listing', RACE, (), '2 2 10 100 witnesses explain')
     for beside in ('explain', 'group', 'group explain', 'ends group explain'):
-        yield Row(printed(beside), TWO_RACES, (), f'9 200 {beside}')
         yield Row('check_listing', TWO_RACES, (), f'2 2 3 200 {beside}', most=FEW)
     for beside in ('explain', 'ends explain', 'ends group witnesses explain'):
-        yield Row(printed(beside), BY_THE_FIRST, (), f'10 100 {beside}')
         yield Row('check_listing', BY_THE_FIRST, (), f'2 1 10 100 {beside}', most=FEW)
     yield Row('check_listing', EARLY_OR_LATE, (), '2 1 10 100 ends explain', 'slots:1', most=FEW)
-    yield Row('print_grouped', ENDLESS, (), '10 9 group')
     for mode in (RENDEZVOUS, BUFFERED, 'slots:1'):
         yield Row('check_listing', BOTH_SEND, (), '2 0 10 100 explain', mode=mode)
     yield Row('check_listing', TRAPS, (), '1 1 10 100 explain until')

@@ -13,9 +13,8 @@ from model.explorer import Report, counted, leaf_lines
 from model.policy import Forced
 from model.run_words import run_by
 from model.walks import Run, ending, next_world
-from probe.call_explained import explanation
 from probe.call_given import Row, by_hand, line, no_state, trail_text, unchanged, walked
-from probe.call_reports import behind_steps, listed, tally_text
+from probe.call_reports import behind_steps, tally_text
 from probe.call_scripts import (BOTH_SEND, BY_THE_FIRST, CHOICE, EARLY_OR_LATE, ENDLESS, MESSAGE, ONE_CAME, RACE, SLOT_HELD, TRAPS, TWO_RACES, WHICHEVER)
 
 # Hundreds of requests, of which so many are refused; and all of them.
@@ -46,7 +45,6 @@ def asks():
     yield from searches()
     yield from checks()
     yield from diagnoses()
-    yield from behind_leaves()
     yield from sums()
 
 
@@ -135,14 +133,6 @@ def diagnoses():
         yield Row('diagnose', EACH_ANOTHER, (), f'200 0 2 0 {drawn}', most=FEW)
     yield Row('diagnose', EARLY_OR_LATE, (), f'200 0 2 {ALL} 4', 'slots:1', most=FEW)
     yield Row('diagnose', MANY_RACES, (), f'9999 0 5 {ALL} 1', most=0)
-
-
-def behind_leaves():
-    for beside in ('witnesses', 'explain', 'witnesses explain'):
-        yield Row('push_behind', RACE, (), f'10 100 {beside}')
-        yield Row('push_behind', BY_THE_FIRST, (), f'10 100 ends {beside}')
-    yield Row('push_behind', RACE, (), '10 100', spares=True)
-    yield Row('push_behind', MESSAGE, (), '10 100 witnesses', spares=True)
 
 
 def sums():
@@ -293,15 +283,5 @@ def told_of_script(row):
     return no_state(told.output.decode() + line(f'status {told.status}, strict {strict.status}'))
 
 
-def behind_pushed(row):
-    """The witnesses and explanations of a report."""
-    told = ''
-    for number, leaf in enumerate(listed(row, walked(row), *row.numbers()).leaves):
-        _, *behind = leaf_lines(number, leaf, row.has('witnesses'))
-        told += ''.join(map(line, behind)) + (explanation(row.script, leaf.outcome) if row.has('explain') else '')
-    return no_state(told)
-
-
 OUTCOMES = {'explore_outcomes': ways_explored, 'check_outcomes': ways_written, 'check_mode_outcomes': mode_ways_written,
-            'diagnose': told_of_script, 'push_behind': behind_pushed,
-            'Count::plus': by_hand}
+            'diagnose': told_of_script, 'Count::plus': by_hand}

@@ -241,15 +241,6 @@ def all_explained(row):
     return unchanged(trail_text(found), ''.join(line(f'{number}:') + text for number, text in enumerate(texts)))
 
 
-def explained_printed(row):
-    return no_state(line(listing_text(row, listed(row, walked(row), *row.numbers()))))
-
-
-def grouped_printed(row):
-    found = walked(row)
-    return unchanged(trail_text(found), line(listing_text(row, listed(row, found, *row.numbers()))))
-
-
 def listing_written(row):
     told = check_written(row)
     return told._replace(end=explained(row.script, told.end)) if row.has('explain') else told
@@ -298,6 +289,5 @@ REPORTS = {
     'SearchReport looks': report_looks, 'verify': verified, 'verify_end': verified, 'verify_from': verified, 'split': split, 'explore_at': part_explored,
     'explore_by_pieces': by_pieces, 'mpd_pool::check_watched': by_workers, 'mpd_check::check_search': check_written, 'check_piece': piece_written,
     'count_pieces': pieces_counted, 'check_mode': mode_written, 'put_least': by_hand, 'judge': judged, 'read_witness': witness_read,
-    'explain': leaf_explained, 'explain_all': all_explained, 'print_explained': explained_printed,
-    'print_grouped': grouped_printed, 'check_listing': listing_written, 'check_sample': sample_written, 'is_left': left_behind, 'read_report': report_read,
+    'explain': leaf_explained, 'explain_all': all_explained, 'check_listing': listing_written, 'check_sample': sample_written, 'is_left': left_behind, 'read_report': report_read,
     'read_report_witness': report_read, 'choices_of': by_hand, 'steps_by_choices': run_led, 'write_words': run_written}

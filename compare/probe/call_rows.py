@@ -421,14 +421,14 @@ def sessions():
 
 
 # What `check` is asked by itself.
-CHECK_FLAGS = ('ends', 'outcomes', 'explain', 'group', 'until deadlock', 'witness', 'traps', 'complete', 'pieces')
+CHECK_FLAGS = ('ends', 'outcomes', 'explain', 'group', 'until deadlock', 'witness', 'traps', 'complete', 'pieces', 'json')
 
 
 # Words of a command line, and what they are read as: of `check` the runs, the fuel, the split and the workers, and then what else was given.
 READ_OPTIONS = (
     ('check a --runs 7 --workers 3', 'check a rendezvous 7 100000 1 3 runs'), ('trace a --mode b', 'trace a b false'),
     ('diagnose a', 'diagnose a - false -'), ('diagnose --strict a --mode b', 'diagnose a b true -'), ('diagnose --modes 7 a', 'diagnose a - 7 false -'),
-    ('diagnose a --ranks 2-5', 'diagnose a - false 2-5'), ('diagnose a --ranks=', 'diagnose a - false '),
+    ('diagnose a --ranks 2-5', 'diagnose a - false 2-5'), ('diagnose --json a', 'diagnose a - false - json'), ('diagnose a --ranks=', 'diagnose a - false '),
     ('run a --ranks 16', 'run a rendezvous false\nranks 16'), ('run a --ranks 17', 'usage false 2'), ('c a --ranks 3', 'c a\nranks 3'),
     ('trace a --echo', 'trace a rendezvous true'), ('debug a --echo --width 132', 'debug a rendezvous - - false true 132 false 24'),
     ('debug a', 'debug a rendezvous - - false false 80 false 24'), ('dap a --mode b', 'dap a b - - false'),

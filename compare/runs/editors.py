@@ -4,23 +4,32 @@ where a fault is found; and that each editor's files start the debug adapter ali
     python3 compare/runs/editors.py [PROGRAM]
 
 Each token of each example has the class that the grammar for VS Code gives it, as its editor would: at each place the first pattern that
-matches there. The words of Vim's syntax and of the mode for Emacs are those of the grammar, by the same classes. With a program, what it says
-of a script with a fault has the name and the line that the problem matcher finds. The files for debuggers name one type, and `dap` with the script
-after it. Grammars, and files for debuggers, that are broken on purpose must be noticed each time. The status is 0 where all is so.
+matches there. The words of Vim's syntax and of the mode for Emacs are those of the grammar, by the same classes. With a program, the task of
+docs/EDITORS.md, run with it and with a front door that first says that the program is a checked one, tells a fault so that the problem matchers
+find its name and its line. The files for debuggers name one type, and `dap` with the script after it. The package that editors/vsix.py makes has
+each file with its type, and a manifest that says what package.json does. Grammars, files for debuggers, and packages that are broken on purpose
+must be noticed each time. The status is 0 where all is so.
 """
 
+import io
 import json
 import os
 import re
+import shlex
 import subprocess
 import sys
 import tempfile
+import zipfile
 from glob import glob
+from xml.etree import ElementTree
 
 sys.path.insert(0, os.path.dirname(os.path.dirname(os.path.abspath(__file__))))
 
 from model.language import NUMBER, RESERVED, SIGN, WORD
 from places import EXAMPLES, TOP
+
+sys.path.insert(0, f'{TOP}/editors')
+import vsix  # noqa: E402  pylint: disable=wrong-import-position
 
 EDITORS = f'{TOP}/editors'
 GRAMMAR = f'{EDITORS}/vscode/syntaxes/mpd.tmLanguage.json'
@@ -50,6 +59,16 @@ BROKEN_STARTS = (('vscode/extension.js', "'dap'", "'debug'"), ('vscode/extension
                  ('emacs/mpd-dap.el', '"dap" file', 'file "dap"'), ('emacs/mpd-dap.el', 'provider\n "mpdbg"', 'provider\n "mpd"'),
                  ('emacs/mpd-dap.el', '"stepBack"', '"back"'))
 REFUSED = 'mpd 1;\nranks 2;\nvar x;\nsend 1 to 1 tag 0\nrecv x from 0 tag 0;\n'
+# The name has what a shell would take for something else.
+REFUSED_NAME = 'a $fault (of mine).mpd'
+# In the place of the program: what the front door says first at a terminal, where the checked program answers.
+FRONT_DOOR = '#!/bin/sh\necho "checked as it runs, not proved yet: ./mpdbg --prove (up to an hour)" >&2\nexec {} "$@"\n'
+# What is put in the place of what in a member of the package, so that it is noticed; where there is no other text the member goes.
+BROKEN_MEMBERS = (('[Content_Types].xml', '.js"', '.css"'), ('[Content_Types].xml', 'application/json', 'text/json'), ('[Content_Types].xml', 'Types>', 'Kinds>'),
+                  ('extension.vsixmanifest', 'Version="0', 'Version="9'), ('extension.vsixmanifest', 'Id="mpdbg"', 'Id="mpd"'),
+                  ('extension.vsixmanifest', 'extension/package.json', 'package.json'), ('extension.vsixmanifest', 'VisualStudio.Code"', 'VisualStudio"'),
+                  ('extension.vsixmanifest', 'Value="^1', 'Value="^2'), ('extension.vsixmanifest', '<Assets>', '<Asset>'),
+                  ('extension.vsixmanifest', None, None), ('extension/extension.js', None, None), ('extension/syntaxes/mpd.tmLanguage.json', None, None))
 
 
 def classes(text):
@@ -124,10 +143,14 @@ def wrong_words():
         yield f'the words for Emacs: {emacs}'
 
 
+def named_by(extension):
+    """The files that the extension names."""
+    return [it['configuration'] for it in extension['contributes']['languages']] + [it['path'] for it in extension['contributes']['grammars']] + [extension['main']]
+
+
 def files_that_lack(extension):
     """The files that the extension names and that aren't there."""
-    named = [it['configuration'] for it in extension['contributes']['languages']] + [it['path'] for it in extension['contributes']['grammars']] + [extension['main']]
-    return [it for it in named if not os.path.exists(f'{EDITORS}/vscode/{it}')]
+    return [it for it in named_by(extension) if not os.path.exists(f'{EDITORS}/vscode/{it}')]
 
 
 def starts():
@@ -176,16 +199,111 @@ def found_by(patterns, lines):
     return None
 
 
+def shown_json(first):
+    """The JSON that docs/EDITORS.md shows of a file, by how its text begins."""
+    with open(f'{TOP}/docs/EDITORS.md', encoding='utf-8') as it:
+        blocks = [json.loads(block) for block in re.findall(r'^```json\n(.*?)^```$', it.read(), re.M | re.S)]
+    found, = (block for block in blocks if first in block)
+    return found
+
+
 def wrong_problems(program, extension):
-    """Where the problem matcher doesn't find what a program says of a script with a fault."""
-    with tempfile.TemporaryDirectory() as folder:
-        path = f'{folder}/fault.mpd'
-        with open(path, 'w', encoding='ascii') as it:
-            it.write(REFUSED)
-        said = subprocess.run([program, 'check', path], stdin=subprocess.DEVNULL, capture_output=True, text=True, timeout=20).stderr
-    found = found_by(extension['problemMatchers'][0]['pattern'], [f'script {path}', *said.splitlines()])
-    if found != {'file': path, 'message': 'expected', 'line': '5'}:
-        yield f'the problem matcher finds {found} in {said!r}'
+    """Where the problem matchers don't find what the task of docs/EDITORS.md tells of a script with a fault."""
+    task, = shown_json('tasks')['tasks']
+    matchers = {f'${it["name"]}': it['pattern'] for it in extension['problemMatchers']}
+    for starts in (f'#!/bin/sh\nexec {shlex.quote(program)} "$@"\n', FRONT_DOOR.format(shlex.quote(program))):
+        with tempfile.TemporaryDirectory() as folder:
+            for name, text in ((REFUSED_NAME, REFUSED), ('mpdbg', starts)):
+                with open(f'{folder}/{name}', 'w', encoding='ascii') as it:
+                    it.write(text)
+            os.chmod(f'{folder}/mpdbg', 0o755)
+            command = task['command'].replace('${relativeFile}', REFUSED_NAME)
+            said = subprocess.run(['sh', '-c', command], stdin=subprocess.DEVNULL, stdout=subprocess.PIPE, stderr=subprocess.STDOUT, text=True, cwd=folder,
+                                  timeout=20).stdout
+        found = [it for name in task['problemMatcher'] if (it := found_by(matchers[name], said.splitlines()))]
+        if found != [{'file': REFUSED_NAME, 'message': 'expected', 'line': '5'}]:
+            yield f'the problem matchers find {found} in {said!r}'
+
+
+def wrong_launches(whole):
+    """What of launches that are shown or offered has another type than the debugger, or a field that it hasn't."""
+    debugger, = whole['contributes']['debuggers']
+    fields = {'type', 'request', 'name', *debugger['configurationAttributes']['launch']['properties']}
+    offered = [it['body'] for it in debugger['configurationSnippets']]
+    for it in [*debugger['initialConfigurations'], *offered, *shown_json('configurations')['configurations']]:
+        if it['type'] != debugger['type'] or it['request'] != 'launch' or not it.keys() <= fields or 'program' not in it:
+            yield f'a launch is {it}'
+    if any(it['program'] != '^"\\${file}"' for it in offered):
+        yield 'a launch that is offered names no file that is open'
+    if f'onDebugResolve:{debugger["type"]}' not in whole['activationEvents']:
+        yield f'nothing begins the extension at a launch: {whole["activationEvents"]}'
+
+
+def package(members):
+    """The bytes of a package with these members."""
+    made = io.BytesIO()
+    vsix.write(made, members)
+    return made.getvalue()
+
+
+def wrong_types(types, names):
+    """Which members of a package have no type, or another one than their names say."""
+    space = '{http://schemas.openxmlformats.org/package/2006/content-types}'
+    told = {it.get('Extension'): it.get('ContentType') for it in types.iter(f'{space}Default')}
+    for name in names - {'[Content_Types].xml'}:
+        end = os.path.splitext(name)[1]
+        if told.get(end) != {'.js': 'application/javascript', '.json': 'application/json', '.vsixmanifest': 'text/xml'}.get(end, ''):
+            yield f'{name} is of the type {told.get(end)}'
+
+
+def wrong_manifest(manifest, whole):
+    """What the manifest of a package says otherwise than package.json, or not so that VS Code finds it."""
+    space = '{http://schemas.microsoft.com/developer/vsx-schema/2011}'
+
+    def one(path):
+        return next(manifest.iterfind('/'.join(space + part for part in path.split('/'))), ElementTree.Element('none'))
+
+    identity, asset, engine = one('Metadata/Identity'), one('Assets/Asset'), one('Metadata/Properties/Property')
+    if [identity.get(it) for it in ('Id', 'Version', 'Publisher')] != [whole[it] for it in ('name', 'version', 'publisher')]:
+        yield f'the manifest is of {identity.attrib}'
+    if [asset.get(it) for it in ('Type', 'Path')] != ['Microsoft.VisualStudio.Code.Manifest', 'extension/package.json']:
+        yield f'the asset is {asset.attrib}'
+    if one('Installation/InstallationTarget').get('Id') != 'Microsoft.VisualStudio.Code':
+        yield 'the manifest is for another program'
+    if engine.attrib != {'Id': 'Microsoft.VisualStudio.Code.Engine', 'Value': whole['engines']['vscode']}:
+        yield f'the engine is {engine.attrib}'
+    if (one('Metadata/DisplayName').text, one('Metadata/Description').text) != (whole['displayName'], whole['description']):
+        yield 'the manifest tells something else of it'
+
+
+def wrong_package(data, whole):
+    """What is wrong with the form of a package for VS Code."""
+    read = zipfile.ZipFile(io.BytesIO(data))
+    if read.testzip() is not None:
+        yield 'a member of the package is not what its sum says'
+    members = {name: read.read(name) for name in read.namelist()}
+    try:
+        types, manifest = (ElementTree.fromstring(members[name]) for name in ('[Content_Types].xml', 'extension.vsixmanifest'))
+    except (KeyError, ElementTree.ParseError) as why:
+        yield f'no types or no manifest: {why}'
+        return
+    yield from wrong_types(types, members.keys())
+    yield from wrong_manifest(manifest, whole)
+    for name in ['package.json', *named_by(whole)]:
+        if f'extension/{os.path.normpath(name)}' not in members:
+            yield f'no {name} in the package'
+
+
+def unnoticed_packages(whole):
+    """Which packages that are broken on purpose have nothing wrong."""
+    members = vsix.members()
+    for name, before, after in BROKEN_MEMBERS:
+        if before is None:
+            broken = {other: data for other, data in members.items() if other != name}
+        else:
+            broken = {**members, name: members[name].replace(before.encode(), after.encode())}
+        if broken == members or not any(wrong_package(package(broken), whole)):
+            yield f'a package with {after!r} in the place of {before!r} in {name}'
 
 
 def unnoticed(grammar, texts):
@@ -208,9 +326,9 @@ def main():
         whole = json.load(it)
     texts, extension = [*scripts()], whole['contributes']
     wrong = [*wrong_words(), *wrong_colours(patterns_of(grammar), texts), *(f'no file {it}' for it in files_that_lack(whole)),
-        *wrong_starts(starts(), extension)]
+        *wrong_starts(starts(), extension), *wrong_launches(whole), *wrong_package(package(vsix.members()), whole)]
     wrong += [*wrong_problems(program, extension)] if program else []
-    wrong += [f'not noticed: {it}' for it in [*unnoticed(grammar, texts), *unnoticed_starts(starts(), extension)]]
+    wrong += [f'not noticed: {it}' for it in [*unnoticed(grammar, texts), *unnoticed_starts(starts(), extension), *unnoticed_packages(whole)]]
     for it in wrong:
         print(it)
     print(f'{len(texts)} scripts, {sum(len([*classes(text)]) for _, text in texts)} tokens and comments; {len(wrong)} wrong')

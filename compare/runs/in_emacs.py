@@ -4,8 +4,9 @@
     python3 compare/runs/in_emacs.py            the model stands in the place of a program
 
 Emacs runs without a window (compare/started/drive_adapter.el), with the files of editors/emacs. Each stop has the thread and the line that
-docs/ADAPTER.md tells. Another script must be noticed. If there is no Emacs with dap-mode on the path, all is skipped, which is said. The status is 0
-where nothing differed, or all was skipped.
+docs/ADAPTER.md tells. Another script must be noticed. And `compile` finds the file and the line of a fault (compare/started/find_fault.el), which a
+mode that is broken on purpose must not. What there is no Emacs for on the path, or none with dap-mode, is skipped, which is said. The status is 0 where
+nothing differed, or all was skipped.
 """
 
 import argparse
@@ -18,6 +19,7 @@ import tempfile
 sys.path.insert(0, os.path.dirname(os.path.dirname(os.path.abspath(__file__))))
 
 from places import EXAMPLES, TOP
+from runs import in_vim
 
 SCRIPT = 'stolen_message.mpd'
 # A script of which something else must be told.
@@ -43,10 +45,16 @@ TOLD = (
     'told: ended: deadlock: rank 0 at line 9, rank 2 at line 13',
 )
 
+# Of the script with a fault that in_vim.py has, too.
+FAULT = ['mpd-mode; comments # ', f'fault of {in_vim.NAME} at line 4']
+# What is put in the place of what in the mode, so that it is noticed.
+BROKEN = ('"^script ', '"^file '), ('line \\\\([0-9]', 'at \\\\([0-9]'), ('(shell-quote-argument ', '(identity '), ('"\\\\.mpd', '"\\\\.rank')
+
 
 def emacs(home, *words):
     """What Emacs prints, run without a window in a home of its own."""
-    ran = subprocess.run(['emacs', '-q', '--batch', *words], capture_output=True, text=True, timeout=300, check=False, env={**os.environ, 'HOME': home})
+    ran = subprocess.run(['emacs', '-q', '--batch', *words], stdin=subprocess.DEVNULL, capture_output=True, text=True, timeout=300, check=False,
+                         env={**os.environ, 'HOME': home, 'PATH': f'{home}/bin:{os.environ["PATH"]}', 'SHELL': '/bin/sh'})
     return ran.stdout.splitlines() + [line for line in ran.stderr.splitlines()[-1:] if ran.returncode]
 
 
@@ -55,10 +63,28 @@ def driven(program, script, home):
     return emacs(home, '-l', f'{TOP}/compare/started/drive_adapter.el', '--', script, program, f'{TOP}/editors/emacs')
 
 
+def fault_found(home, editors):
+    """What Emacs tells of a script with a fault, with the files of a folder in the place of editors/emacs."""
+    return emacs(home, '-l', f'{TOP}/compare/started/find_fault.el', '--', f'{home}/{in_vim.NAME}', editors)
+
+
+def wrong_faults(program, home):
+    """Where Emacs finds a fault otherwise than it must, and which modes that are broken on purpose find it all the same."""
+    in_vim.make_files(program, home)
+    found = fault_found(home, f'{TOP}/editors/emacs')
+    if found != FAULT:
+        yield f'told {found}, not {FAULT}'
+    with open(f'{TOP}/editors/emacs/mpd-mode.el', encoding='ascii') as file:
+        text = file.read()
+    for before, after in BROKEN:
+        with open(f'{home}/mpd-mode.el', 'w', encoding='ascii') as file:
+            file.write(text.replace(before, after))
+        if before not in text or fault_found(home, home) == FAULT:
+            yield f'not noticed: {after!r} in the place of {before!r}'
+
+
 def why_skipped(home):
     """Why nothing can be driven; None where it can."""
-    if shutil.which('emacs') is None:
-        return 'no Emacs on the path'
     has_mode = emacs(home, '--eval', "(progn (package-initialize) (princ (if (locate-library \"dap-mode\") \"there\" \"none\")))")
     return None if has_mode == ['there'] else 'Emacs has no dap-mode'
 
@@ -78,18 +104,22 @@ def main():
     parser = argparse.ArgumentParser(description=__doc__, formatter_class=argparse.RawDescriptionHelpFormatter)
     parser.add_argument('program', metavar='PROGRAM', nargs='?')
     program = parser.parse_args().program
+    if shutil.which('emacs') is None:
+        print('skipped: no Emacs on the path')
+        return 0
     with tempfile.TemporaryDirectory(prefix='in-emacs-') as home:
+        wrong = [*wrong_faults(program, home)]
         why = why_skipped(home)
         if why is not None:
-            print(f'skipped: {why}')
-            return 0
+            print('\n'.join([*wrong, f'skipped: {why}', f'{len(FAULT)} lines of Emacs, {len(wrong)} wrong']))
+            return 1 if wrong else 0
         program = started(program, home)
         scripts = [shutil.copy(f'{EXAMPLES}/{name}', home) for name in (SCRIPT, ANOTHER)]
         told, other = (driven(program, script, home) for script in scripts)
-    wrong = [f'told {line!r}, not {right!r}' for line, right in zip(told, TOLD) if line != right]
+    wrong += [f'told {line!r}, not {right!r}' for line, right in zip(told, TOLD) if line != right]
     wrong += [f'{len(told)} lines, not {len(TOLD)}'] * (len(told) != len(TOLD))
     wrong += [f'{ANOTHER} is told as {SCRIPT}'] * (other == list(TOLD))
-    print('\n'.join([*wrong, f'{len(TOLD)} lines of Emacs, {len(wrong)} wrong']))
+    print('\n'.join([*wrong, f'{len(FAULT) + len(TOLD)} lines of Emacs, {len(wrong)} wrong']))
     return 1 if wrong else 0
 
 

@@ -240,6 +240,11 @@ def usage_rows(program):
             behind = [word for it in reversed(others[place + 1:]) for word in it]
             for more in ([], behind) if behind else ([],):
                 yield f'{more} and {other} beside {words}', no_input(program, 'check', 'no-such-file', *more, *other, *words, '--mode', 'no-mode'), refusal
+    # pieces can't stand beside JSON either, which is told behind all else
+    for told, *options in (('--piece', '--piece', '0'), ('--pieces', '--modes', '1', '--pieces'), ('--piece', '--pieces', '--piece=9')):
+        for first, *more in (('--json', '--explain', '--group'), ('--complete', '--complete')):
+            refusal = Result(b'', f"mpdbg: {first} and {told} can't stand together\n".encode(), 2)
+            yield f'JSON of {options} and {more}', no_input(program, 'check', 'no-such-file', '--json', *options, *more, '--mode', 'no-mode'), refusal
     # what can't stand beside a sample, and a seed without one, are told first
     for told, *options in (("--sample and --piece can't stand together", '--sample', '3'), ('--seed wants --sample', '--seed', '3')):
         refusal = Result(b'', f'mpdbg: {told}\n'.encode(), 2)

@@ -55,6 +55,7 @@ Options:
       --mode <M>       How standard sends behave: rendezvous, which is usual, buffered, or slots:K with K from 0 to 65536
       --modes <N>      Try rendezvous, slots:1 to slots:N and buffered in place of one mode, 0 to 1000
       --strict         End with status 1 also where calls can be left over
+      --json           Print each diagnosis as a JSON object on a line, in place of text
   -h, --help           Print help
 
 Examples:
@@ -223,6 +224,7 @@ Options:
       --complete     End with status 4 where nothing was found and not all was tried, with --modes in each mode; not beside --piece or --pieces
       --piece <N>    Print the part of the report that piece N has, 0 to 1023
       --pieces       Print how many pieces there are, and nothing else
+      --json         Print each report as a JSON object on a line, in place of text; not beside --piece or --pieces
   -h, --help         Print help
 
 Examples:
@@ -370,7 +372,8 @@ ANSWERS = (
     ('run|--help', RUN), ('run|-h', RUN), ('help|run', RUN), ('run|no-such-file|--mode|no-mode|--help', RUN),
     ('serve|--help', SERVE), ('serve|-h', SERVE), ('help|serve', SERVE), ('serve|no-such-file|--port|1|--mode|no-mode|--help', SERVE),
     ('check|--help', CHECK), ('check|-h', CHECK), ('help|check', CHECK), ('check|a|--runs|5|-h', CHECK),
-    ('check|a|--until|deadlock|--split=8|--workers|0|--piece|1023|--pieces|--help', CHECK), ('check|a|--modes|1000|-h', CHECK),
+    ('check|a|--until|deadlock|--split=8|--workers|0|--piece|1023|--pieces|--help', CHECK), ('check|a|--modes|1000|-h', CHECK), ('check|a|--json|--help', CHECK),
+    ('diagnose|a|--json|-h', DIAGNOSE),
     ('check|a|--outcomes|--states|16000000|--help', CHECK), ('check|a|--ends|--sample|65536|--seed=18446744073709551615|--explain|--group|-h', CHECK),
     ('verify|--help', VERIFY), ('verify|-h', VERIFY), ('help|verify', VERIFY), ('verify|a|b|--help', VERIFY),
     ('verify|a|b|--leaf|67108863|-h', VERIFY),
@@ -563,6 +566,7 @@ MISTAKES = (
     unknown('check|a|--samples|5', '--samples', 'mpdbg check --sample <N> <FILE>', "a similar argument exists: '--sample'"),
     unknown('check|a|--sed|5', '--sed', 'mpdbg check --seed <S> <FILE>', "a similar argument exists: '--seed'"),
     unknown('check|a|--explian', '--explian', 'mpdbg check --explain <FILE>', "a similar argument exists: '--explain'"),
+    unknown('check|a|--jso', '--jso', 'mpdbg check --json <FILE>', "a similar argument exists: '--json'"),
     unknown('check|a|--groups', '--groups', 'mpdbg check --group <FILE>', "a similar argument exists: '--group'"),
     hyphened('diagnose|a|--fuel|5', '--fuel', 'mpdbg diagnose <FILE>'),
     hyphened('diagnose|a|--complete', '--complete', 'mpdbg diagnose <FILE>'),
@@ -673,6 +677,10 @@ MISTAKES = (
     Mistake('check|a|--outcomes=true', "unexpected value 'true' for '--outcomes' found; no more were expected", 'mpdbg check --outcomes <FILE>'),
     Mistake('check|a|--ends=true', "unexpected value 'true' for '--ends' found; no more were expected", 'mpdbg check --ends <FILE>'),
     Mistake('check|a|--explain=1', "unexpected value '1' for '--explain' found; no more were expected", 'mpdbg check --explain <FILE>'),
+    Mistake('check|a|--json|--json', "the argument '--json' cannot be used multiple times", OF_CHECK),
+    Mistake('diagnose|a|--json|--json', "the argument '--json' cannot be used multiple times", OF_DIAGNOSE),
+    Mistake('check|a|--json=1', "unexpected value '1' for '--json' found; no more were expected", 'mpdbg check --json <FILE>'),
+    Mistake('diagnose|a|--json=1', "unexpected value '1' for '--json' found; no more were expected", 'mpdbg diagnose --json <FILE>'),
     Mistake('check|a|--group=a', "unexpected value 'a' for '--group' found; no more were expected", 'mpdbg check --group <FILE>'),
     Mistake('verify|a|b|--leaf|1|--leaf=1', "the argument '--leaf <N>' cannot be used multiple times", OF_VERIFY),
     Mistake('words|a|--choices|0|--choices=0', "the argument '--choices <C>' cannot be used multiple times", OF_WORDS),

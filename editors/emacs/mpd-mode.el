@@ -13,6 +13,22 @@
     (,(regexp-opt '("any" "rank" "size") 'words) . font-lock-constant-face))
   "The reserved words of rank scripts, each with its face.")
 
+;; A fault is told without the name of the file (docs/FORMATS.md, "Faults and statuses"), so `mpd-mode-check' says that first, and the line of
+;; the fault is one of the file that was said last.
+(defconst mpd-mode-faults
+  '((mpdbg-script "^script \\(.+\\)$" 1 nil nil 0)
+    (mpdbg "^mpdbg: script refused [0-9]+ [^ ]+ at [0-9]+ line \\([0-9]+\\)$" nil 1 nil 2))
+  "How `compile' finds the place of a fault: in which file, and at which line.")
+(dolist (it mpd-mode-faults)
+  (setf (alist-get (car it) compilation-error-regexp-alist-alist) (cdr it))
+  (add-to-list 'compilation-error-regexp-alist (car it)))
+
+(defun mpd-mode-check ()
+  "The command that checks the script of this buffer, for `compile'."
+  (when buffer-file-name
+    (let ((file (shell-quote-argument (file-name-nondirectory buffer-file-name))))
+      (format "echo script %s; mpdbg check %s" file file))))
+
 ;;;###autoload
 (define-derived-mode mpd-mode prog-mode "mpd"
   "Major mode for rank scripts of mpdbg."
@@ -20,6 +36,7 @@
   (modify-syntax-entry ?\n ">" mpd-mode-syntax-table)
   (modify-syntax-entry ?_ "w" mpd-mode-syntax-table)
   (setq-local comment-start "# ")
+  (when (mpd-mode-check) (setq-local compile-command (mpd-mode-check)))
   (setq-local font-lock-defaults '(mpd-mode-words)))
 
 ;;;###autoload

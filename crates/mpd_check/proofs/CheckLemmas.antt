@@ -21,15 +21,15 @@ use Rattle.mpd_explore.proofs.SplitLemmas.{reached_at, level_reached}
 use Rattle.mpd_pool.specs.declared.pool.SearchPlan.{SearchPlan}
 use Rattle.mpd_pool.specs.declared.pool.PoolFault.{PoolFault}
 use Rattle.mpd_pool.specs.declared.pool.PoolFault.TheVariants as pool
-use Rattle.mpd_check.specs.declared.Told.{Told}
 use Rattle.mpd_check.specs.declared.fault.CheckFault.{CheckFault}
 use Rattle.mpd_check.specs.declared.fault.CheckFault.TheVariants.{BadWorkers, TooManyPieces, NoSuchPiece, Engine}
 use Rattle.mpd_check.specs.declared.counts.Tally.{Tally}
 use Rattle.mpd_check.specs.Tally.{tally_of}
+use Rattle.mpd_check.specs.declared.listing.Listing.{Listing}
 use Rattle.mpd_check.specs.declared.listing.Telling.{Telling}
-use Rattle.mpd_check.specs.Listing.{part_text}
+use Rattle.mpd_check.specs.Listing.{IsListing, IsPartListed}
 use Rattle.mpd_check.specs.Refused.{refused_by, split_refused}
-use Rattle.mpd_check.specs.Checked.{pieces_of, leaves_of, more_of, leaves_at, more_at, count_text, IsCrew, AreFew, Put, PutCount, AnsweredBy, PartTold, PartAnswered, Counted}
+use Rattle.mpd_check.specs.Checked.{pieces_of, leaves_of, more_of, leaves_at, more_at, count_text, IsCrew, AreFew, Put, PutCount, AnsweredBy, Counted, IsTallied}
 
 -- ---- a report of all pieces
 
@@ -52,25 +52,6 @@ refused_answered want s mode plan workers old new pool.Memory same crew some man
 
 -- ---- one piece
 
-pub put_part : (text : List ℕ → List ℕ) (s : Program) (mode : Mode) (plan : SearchPlan) (number : ℕ) (old new : SinkSeen) (told : Told) (r : Result Tally CheckFault) → PartTold text s mode plan number (Ok told) → Put told.text.items told.tally old new r → PartAnswered text s mode plan number old new r
-put_part text s mode plan number old new told (Ok t) p h = (p.0, p.1, p.2, rw p.3 at h.0, h.1 ∙ p.4)
-put_part text s mode plan number old new told (Err (Engine WriteFailed)) p h = (p.0, p.1, p.2, rw p.3 at h)
-put_part text s mode plan number old new told (Err (Engine ReadFailed)) p h = h
-put_part text s mode plan number old new told (Err (Engine TooManyTurns)) p h = h
-put_part text s mode plan number old new told (Err (Engine Memory)) p h = absurd h
-put_part text s mode plan number old new told (Err BadWorkers) p h = h
-put_part text s mode plan number old new told (Err TooManyPieces) p h = absurd h
-put_part text s mode plan number old new told (Err (NoSuchPiece n m)) p h = absurd h
-
-pub refused_part : (text : List ℕ → List ℕ) (s : Program) (mode : Mode) (plan : SearchPlan) (number : ℕ) (old new : SinkSeen) (f : CheckFault) → new ≡ old → PartTold text s mode plan number (Err f) → PartAnswered text s mode plan number old new (Err f)
-refused_part text s mode plan number old new (Engine WriteFailed) same p = absurd p
-refused_part text s mode plan number old new (Engine ReadFailed) same p = p
-refused_part text s mode plan number old new (Engine TooManyTurns) same p = p
-refused_part text s mode plan number old new (Engine Memory) same p = same
-refused_part text s mode plan number old new BadWorkers same p = p
-refused_part text s mode plan number old new TooManyPieces same p = (same, p)
-refused_part text s mode plan number old new (NoSuchPiece n m) same p = (same, p.0, p.1, p.2, p.3)
-
 -- the piece of a number, and how many there are
 pub count_is : (xs : List (List ℕ)) (ps : List Piece) → ps ≡ numbered 0 xs → length ps ≡ length xs
 count_is xs ps is = sym (length-map ps (λ (p : Piece). p.choices)) ∙ ap (λ (qs : List Piece). length (choices_of qs)) is ∙ ap length (numbered_choices 0 xs)
@@ -79,19 +60,23 @@ piece_at : (xs : List (List ℕ)) (ps : List Piece) (i : ℕ) (p : Piece) → ps
 piece_at xs ps i p is within read =
     ap (λ (ys : List (List ℕ)). slice_get ys i) (sym (ap choices_of is ∙ numbered_choices 0 xs)) ∙ slice_get-map (λ (q : Piece). q.choices) ps i ∙ ap (option_map (λ (q : Piece). q.choices)) (slice_get_read ps (length ps) i p refl within read)
 
-pub piece_told : (text : List ℕ → List ℕ) (s : Program) (mode : Mode) (plan : SearchPlan) (ps : List Piece) (number : ℕ) (p : Piece) (told : Told) → ps ≡ numbered 0 (pieces_of s mode plan) → number < length ps → p ≡ get_or ps number p → AreFew s mode plan
-    → told.text.items ≡ text p.choices → told.tally ≡ tally_of (leaves_at s mode plan p.choices) (more_at s mode plan p.choices) → PartTold text s mode plan number (Ok told)
-piece_told text s mode plan ps number p told is within read few told_so tally = (p.choices, piece_at (pieces_of s mode plan) ps number p is within read, few, told_so, tally)
+pub piece_listed : (t : Telling) (s : Program) (mode : Mode) (plan : SearchPlan) (ps : List Piece) (number : ℕ) (p : Piece) (v : Listing) → ps ≡ numbered 0 (pieces_of s mode plan) → number < length ps → p ≡ get_or ps number p → AreFew s mode plan
+    → IsListing (decides_by plan.limits.ends) t plan.limits (first_standing s mode) (leaves_at s mode plan p.choices) (more_at s mode plan p.choices) v → IsPartListed t s mode plan number (Ok v)
+piece_listed t s mode plan ps number p v is within read few listed = (p.choices, piece_at (pieces_of s mode plan) ps number p is within read, few, listed)
 
-pub none_told : (text : List ℕ → List ℕ) (s : Program) (mode : Mode) (plan : SearchPlan) (ps : List Piece) (number : ℕ) → ps ≡ numbered 0 (pieces_of s mode plan) → length ps ≤ number → AreFew s mode plan → PartTold text s mode plan number (Err (NoSuchPiece number (length ps)))
-none_told text s mode plan ps number is past few = (refl, count_is (pieces_of s mode plan) ps is, past, few)
+pub none_listed : (t : Telling) (s : Program) (mode : Mode) (plan : SearchPlan) (ps : List Piece) (number : ℕ) → ps ≡ numbered 0 (pieces_of s mode plan) → length ps ≤ number → AreFew s mode plan → IsPartListed t s mode plan number (Err (NoSuchPiece number (length ps)))
+none_listed t s mode plan ps number is past few = (refl, count_is (pieces_of s mode plan) ps is, past, few)
 
 pub reached_number : (s : Program) (mode : Mode) (plan : SearchPlan) (ps : List Piece) (number : ℕ) (p : Piece) (d : Standing) → d ≡ first_standing s mode → ps ≡ numbered 0 (pieces_of s mode plan) → number < length ps → p ≡ get_or ps number p → Reaches (decides_by plan.limits.ends) plan.limits.fuel p.choices d.world
 reached_number s mode plan ps number p d is pieces within read =
     reached_at (decides_by plan.limits.ends) plan.limits.fuel (start s mode) d.world ps number p p.choices within read refl (ap (λ (x : Standing). x.world) is) (level_reached (decides_by plan.limits.ends) plan.limits.fuel plan.split (start s mode) ps pieces)
 
-pub same_start : (t : Telling) (s : Program) (mode : Mode) (plan : SearchPlan) (number : ℕ) (d : Standing) (r : Result Told CheckFault) → d ≡ first_standing s mode → PartTold (part_text t d.trail.program d.trail.mode plan) d.trail.program d.trail.mode plan number r → PartTold (part_text t s mode plan) s mode plan number r
-same_start t s mode plan number d r is h = subst (λ (x : Standing). PartTold (part_text t x.trail.program x.trail.mode plan) x.trail.program x.trail.mode plan number r) is h
+pub same_start : (t : Telling) (s : Program) (mode : Mode) (plan : SearchPlan) (number : ℕ) (d : Standing) (r : Result Listing CheckFault) → d ≡ first_standing s mode → IsPartListed t d.trail.program d.trail.mode plan number r → IsPartListed t s mode plan number r
+same_start t s mode plan number d r is h = subst (λ (x : Standing). IsPartListed t x.trail.program x.trail.mode plan number r) is h
+
+pub none_begun : (t : Telling) (s : Program) (mode : Mode) (plan : SearchPlan) (number : ℕ) (f : SplitFault) → (f ≡ split.TooManyPieces → PIECES_MAX < length (pieces_of s mode plan)) → IsPartListed t s mode plan number (Err (split_refused f))
+none_begun t s mode plan number split.TooManyPieces many = many refl
+none_begun t s mode plan number split.Memory many = tt
 
 -- ---- how many pieces there are
 
@@ -106,6 +91,18 @@ put_counted s mode plan old new text count ps (Err BadWorkers) is many pieces fe
 put_counted s mode plan old new text count ps (Err TooManyPieces) is many pieces few h = absurd h
 put_counted s mode plan old new text count ps (Err (NoSuchPiece n m)) is many pieces few h = h
 
-pub none_begun : (text : List ℕ → List ℕ) (s : Program) (mode : Mode) (plan : SearchPlan) (number : ℕ) (f : SplitFault) → (f ≡ split.TooManyPieces → PIECES_MAX < length (pieces_of s mode plan)) → PartTold text s mode plan number (Err (split_refused f))
-none_begun text s mode plan number split.TooManyPieces many = many refl
-none_begun text s mode plan number split.Memory many = tt
+-- ---- a mode
+
+pub refused_tallied : (s : Program) (mode : Mode) (plan : SearchPlan) (workers : ℕ) (f : PoolFault) → IsCrew workers → (f ≡ pool.BadWorkers → ⊥) → (f ≡ pool.TooManyPieces → PIECES_MAX < length (pieces_of s mode plan)) → IsTallied s mode plan workers (Err (refused_by f))
+refused_tallied s mode plan workers pool.BadWorkers crew some many = absurd (some refl)
+refused_tallied s mode plan workers pool.TooManyPieces crew some many = (crew, many refl)
+refused_tallied s mode plan workers pool.Memory crew some many = crew
+
+pub untold : (want : List ℕ) (s : Program) (mode : Mode) (plan : SearchPlan) (workers : ℕ) (old new : SinkSeen) (f : CheckFault) → new ≡ old → IsTallied s mode plan workers (Err f) → AnsweredBy want s mode plan workers old new (Err f)
+untold want s mode plan workers old new (Engine Memory) same h = (same, h)
+untold want s mode plan workers old new BadWorkers same h = (same, h)
+untold want s mode plan workers old new TooManyPieces same h = (same, h.0, h.1)
+untold want s mode plan workers old new (Engine WriteFailed) same h = absurd h
+untold want s mode plan workers old new (Engine ReadFailed) same h = absurd h
+untold want s mode plan workers old new (Engine TooManyTurns) same h = absurd h
+untold want s mode plan workers old new (NoSuchPiece n m) same h = absurd h

@@ -1,5 +1,5 @@
--- What is told of the ways to end is all of it, and what is answered.
-use Rattle.std.proofs.Common.{◌≡◌, ℕ, List, [], ◌∷◌, ◌++◌, ◌⊎◌, inl, inr, Result, Ok, Err, IfOk, refl, ap, ap₂, sym, ◌∙◌, append-nil, string_bytes}
+-- Where a debugger stands, and what is answered of the ways to end.
+use Rattle.std.proofs.Common.{◌≡◌, ℕ, List, Result, Ok, Err, IfOk, ap₂, ◌∙◌}
 use Rattle.std.specs.declared.alloc.AllocError.{AllocError}
 use Rattle.mpd_model.specs.declared.call.Mode.{Mode}
 use Rattle.mpd_model.specs.script.Program.{Program}
@@ -7,26 +7,13 @@ use Rattle.mpd_model.specs.steps.World.{World, start}
 use Rattle.mpd_model.specs.runs.Trail.{Trail, Standing}
 use Rattle.mpd_trail.specs.DebuggerViews.{DebuggerView, standing_of}
 use Rattle.mpd_model.specs.devices.Seen.{SinkSeen}
-use Rattle.mpd_explore.specs.declared.report.SearchLeaf.{SearchLeaf}
-use Rattle.mpd_outcomes.specs.declared.report.Count.{Count}
 use Rattle.mpd_outcomes.specs.declared.report.Outcomes.{Outcomes}
 use Rattle.mpd_outcomes.specs.declared.report.StateLimits.{StateLimits}
 use Rattle.mpd_lines.specs.declared.engine.EngineFault.{EngineFault}
 use Rattle.mpd_lines.specs.declared.engine.EngineFault.TheVariants.{ReadFailed, WriteFailed, TooManyTurns, Memory}
 use Rattle.mpd_check.specs.declared.outcomes.OutcomesFound.{OutcomesFound}
 use Rattle.mpd_check.specs.declared.outcomes.ToldOutcomes.{ToldOutcomes}
-use Rattle.mpd_check.specs.OutcomesText.{outcome_lines, IsTextOf, OutcomesAnsweredBy, PutOutcomes}
-
--- ---- the lines
-
-no_lines : (witnesses texts lines : List (List ℕ)) (n : ℕ) (leaves : List SearchLeaf) (counts : List Count) → (leaves ≡ []) ⊎ (counts ≡ []) → outcome_lines witnesses texts lines n leaves counts ≡ []
-no_lines witnesses texts lines n leaves counts (inl e) = ap (λ (ls : List SearchLeaf). outcome_lines witnesses texts lines n ls counts) e
-no_lines witnesses texts lines n [] counts (inr e) = refl
-no_lines witnesses texts lines n (l ∷ leaves) counts (inr e) = ap (outcome_lines witnesses texts lines n (l ∷ leaves)) e
-
--- where either list has come to its end, all lines were told
-pub all_told : (witnesses texts lines : List (List ℕ)) (n : ℕ) (leaves : List SearchLeaf) (counts : List Count) (so_far all : List ℕ) → (leaves ≡ []) ⊎ (counts ≡ []) → so_far ++ outcome_lines witnesses texts lines n leaves counts ≡ all → so_far ≡ all
-all_told witnesses texts lines n leaves counts so_far all none told = sym (append-nil so_far) ∙ ap (λ (z : List ℕ). so_far ++ z) (sym (no_lines witnesses texts lines n leaves counts none)) ∙ told
+use Rattle.mpd_check.specs.Outcomes.{IsTextOf, OutcomesAnsweredBy, PutOutcomes}
 
 -- ---- where a debugger stands
 

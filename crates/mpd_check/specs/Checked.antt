@@ -22,7 +22,6 @@ use Rattle.mpd_check.specs.declared.fault.CheckFault.{CheckFault}
 use Rattle.mpd_check.specs.declared.fault.CheckFault.TheVariants.{BadWorkers, TooManyPieces, NoSuchPiece, Engine}
 use Rattle.mpd_check.specs.declared.counts.Tally.{Tally}
 use Rattle.mpd_check.specs.declared.modes.Listed.TheVariants as listed
-use Rattle.mpd_check.specs.declared.Told.{Told}
 use Rattle.mpd_check.specs.declared.ReportOptions.{ReportOptions}
 use Rattle.mpd_check.specs.Tally.{tally_of, verdict_of}
 use Rattle.mpd_check.specs.ModeText.{mode_line, least_line}
@@ -111,22 +110,20 @@ abbrev pub Judged : Program → ReportOptions → SinkSeen → SinkSeen → Resu
 Judged s o old new (Ok v) = (t : Tally) × Answered s o.mode (plan_by o) o.workers old new (Ok t) × (v ≡ verdict_of false false t)
 Judged s o old new (Err fault) = Answered s o.mode (plan_by o) o.workers old new (Err fault)
 
+-- what it tells, or why nothing is told
+abbrev pub IsTallied : Program → Mode → SearchPlan → ℕ → Result Tally CheckFault → Type 0
+IsTallied s mode plan workers (Ok tally) = (tally ≡ tally_of (leaves_of s mode plan) (more_of s mode plan)) × IsCrew workers × AreFew s mode plan
+IsTallied s mode plan workers (Err (Engine Memory)) = IsCrew workers
+IsTallied s mode plan workers (Err (Engine WriteFailed)) = ⊥
+IsTallied s mode plan workers (Err (Engine ReadFailed)) = ⊥
+IsTallied s mode plan workers (Err (Engine TooManyTurns)) = ⊥
+IsTallied s mode plan workers (Err BadWorkers) = IsCrew workers → ⊥
+IsTallied s mode plan workers (Err TooManyPieces) = IsCrew workers × (PIECES_MAX < length (pieces_of s mode plan))
+IsTallied s mode plan workers (Err (NoSuchPiece number count)) = ⊥
+
 -- one line of what it tells
 abbrev pub ModeAnswered : Program → Mode → SearchPlan → ℕ → SinkSeen → SinkSeen → Result Tally CheckFault → Type 0
 ModeAnswered s mode plan workers old new result = AnsweredBy (mode_line listed.Leaves mode (tally_of (leaves_of s mode plan) (more_of s mode plan))) s mode plan workers old new result
-
--- The part of the report that the piece of a number has is told; or there are too many pieces, or so few.
-abbrev pub PartTold : (List ℕ → List ℕ) → Program → Mode → SearchPlan → ℕ → Result Told CheckFault → Type 0
-PartTold text s mode plan number (Ok told) =
-    (choices : List ℕ) × (slice_get (pieces_of s mode plan) number ≡ Some choices) × AreFew s mode plan
-    × (told.text.items ≡ text choices) × (told.tally ≡ tally_of (leaves_at s mode plan choices) (more_at s mode plan choices))
-PartTold text s mode plan number (Err (Engine WriteFailed)) = ⊥
-PartTold text s mode plan number (Err (Engine Memory)) = Unit {0}
-PartTold text s mode plan number (Err (Engine ReadFailed)) = ⊥
-PartTold text s mode plan number (Err (Engine TooManyTurns)) = ⊥
-PartTold text s mode plan number (Err BadWorkers) = ⊥
-PartTold text s mode plan number (Err TooManyPieces) = PIECES_MAX < length (pieces_of s mode plan)
-PartTold text s mode plan number (Err (NoSuchPiece asked count)) = (asked ≡ number) × (count ≡ length (pieces_of s mode plan)) × (count ≤ number) × AreFew s mode plan
 
 -- The part of the report that the piece of a number has was written; or nothing: there are too many pieces, or so few.
 abbrev pub PartAnswered : (List ℕ → List ℕ) → Program → Mode → SearchPlan → ℕ → SinkSeen → SinkSeen → Result Tally CheckFault → Type 0

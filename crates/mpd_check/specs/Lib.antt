@@ -2,7 +2,9 @@ pub mod Tally
 pub mod Refused
 pub mod ModeRows
 pub mod ModeText
-pub mod OutcomesText
-pub mod OutcomesRows
+pub mod Grouped
+pub mod GroupRows
+pub mod Shown
+pub mod Outcomes
 pub mod Checked
 pub mod Listing

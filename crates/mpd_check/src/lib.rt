@@ -1,13 +1,16 @@
-//! Looks for deadlocks and traps: a script is explored from its start by workers, with the same report for every number of them, or runs
-//! of it are drawn, and the report is written to a sink.
+//! Looks for deadlocks and traps: a script is explored from its start by workers, with the same
+//! report for every number of them, or runs of it are drawn, and the report is written to a sink.
 #![tactic(auto)]
 
 pub mod counts;
 pub mod fault;
+pub mod groups;
 pub mod listing;
 pub mod modes;
 pub mod outcomes;
 pub mod part;
+mod print;
+mod shown;
 
 ghost use Rattle.mpd_check.specs.Checked.{pieces_of, leaves_of, more_of, text_of, AreFew, IsCrew, Answered, Put, Judged, plan_by};
 ghost use Rattle.mpd_check.specs.Refused.{refused_by};
@@ -17,16 +20,23 @@ ghost use Rattle.std.specs.Prelude.{◌≡◌, ◌↔◌, ◌≤◌, ◌<◌, �
 use crate::counts::tally_of;
 pub use counts::Tally;
 pub use fault::CheckFault;
-pub use listing::{SamplePlan, Telling, Wanted, check_listing, check_sample};
-pub use modes::{Tried, check_mode, put_least};
+pub use groups::Group;
+pub use listing::{
+    Listing, SamplePlan, Telling, Wanted, check_listing, check_sample, list_sample, list_search,
+};
+pub use modes::{Tried, check_mode, mode_tally, put_least};
 use mpd_code::{Code, Subject};
 use mpd_explore::{PIECES_MAX, SearchLimits, Witnesses};
 use mpd_lines::{EngineFault, Verdict, write_all};
 use mpd_model::{Mode, STEPS_MAX, Sink};
 use mpd_pool::{Crew, Gate, PoolFault, SearchPlan, Ungated, WORKERS_MAX, print_report};
 use mpd_trail::Debugger;
-pub use outcomes::{OutcomesFound, OutcomesPlan, check_mode_outcomes, check_outcomes};
+pub use outcomes::{
+    OutcomesFound, OutcomesListing, OutcomesPlan, check_mode_outcomes, check_outcomes, found_in,
+    list_outcomes, outcomes_in,
+};
 pub use part::{check_piece, count_pieces};
+pub use print::put_listing;
 use std::alloc::Global;
 use std::marker::Sync;
 use std::thread::Threads;
@@ -175,8 +185,8 @@ impl ReportOptions {
 
 /// The report of a script's runs, written to a sink: a line for each, the witness after a deadlock
 /// if it is wanted, and how many there are (docs/FORMATS.md, "Reports"). The verdict is bad if a
-/// deadlock or a trap is listed, else good; its `status` is the program's. Refused as `check_search`
-/// is, in the same order. Requires a fuel of at most 1,000,000 steps.
+/// deadlock or a trap is listed, else good; its `status` is the program's. Refused as
+/// `check_search` is, in the same order. Requires a fuel of at most 1,000,000 steps.
 pub fn check<W: Sink, R: Threads + Sync>(
     rt: &R,
     alloc: Global,

@@ -1,27 +1,28 @@
-//! A report that is explained, or whose leaves are grouped by how they end; and a sample of a script's runs (docs/FORMATS.md, "Reports").
+//! A report by its leaves, all of them or those that end in the same way together, each with what
+//! is asked for beside it; and a sample of a script's runs (docs/FORMATS.md, "Reports").
 
 ghost use Rattle.std.specs.Prelude.{◌≡◌, ◌≤◌, ◌<◌, ◌+◌, ◌⊎◌, false, IfOk, OnOk, IsErrOf, length, map, string_bytes, if◌then◌else◌};
 ghost use Rattle.std.specs.List.{AllByRecursion};
-ghost use Rattle.mpd_model.specs.runs.Trail.{done_steps, IsReached};
-ghost use Rattle.mpd_trail.specs.DebuggerViews.{standing_of};
+ghost use Rattle.mpd_model.specs.runs.Trail.{done_steps, first_standing};
+ghost use Rattle.mpd_trail.specs.DebuggerViews.{AsFound, standing_of};
 ghost use Rattle.mpd_policy.specs.Wide.{wide_decision};
 ghost use Rattle.mpd_explore.specs.Sleeping.{decides_by};
 ghost use Rattle.mpd_explore.specs.Witness.{HasWitness};
 ghost use Rattle.mpd_explore.specs.WitnessTexts.{witness_texts};
-ghost use Rattle.mpd_explain.specs.Explanations.{explained_at};
+ghost use Rattle.mpd_check.specs.Shown.{ends_if};
 ghost use Rattle.mpd_check.specs.Checked.{pieces_of, leaves_of, more_of, AreFew};
-ghost use Rattle.mpd_marks.specs.Marked.{marked};
-ghost use Rattle.mpd_check.specs.Listing.{listed_at, listing_at, marked_if, listing_text, report_listing, sample_leaves, sample_more, ListingAnswered, PutSample, SampleAnswered};
-ghost use Rattle.mpd_check.specs.Tally.{tally_of};
+ghost use Rattle.mpd_check.specs.Listing.{sample_leaves, sample_more, IsListing, IsListed, ListingAnswered, SampleAnswered};
 
 use crate::counts::{Tally, tally_of};
 use crate::fault::CheckFault;
-use crate::{Told, is_crew, put, refused};
+use crate::groups::Group;
+use crate::print::put_listing;
+use crate::shown::{Shown, shown_of};
+use crate::{is_crew, refused};
 use mpd_code::Subject;
-use mpd_explain::{Beside, explain_all, print_explained, print_grouped};
-use mpd_explore::{PIECES_MAX, SearchLimits, SearchReport, Watch, Witnesses};
-use mpd_lines::{EngineFault, write_all};
-use mpd_marks::push_marked;
+use mpd_explain::{End, explain_all};
+use mpd_explore::{PIECES_MAX, SearchLeaf, SearchLimits, SearchReport, Watch, Witnesses};
+use mpd_lines::EngineFault;
 use mpd_model::{STEPS_MAX, Sink};
 use mpd_policy::{Plain, Schedule, Wide};
 use mpd_pool::{Crew, Gate, PoolFault, SearchPlan, WORKERS_MAX};
@@ -38,7 +39,8 @@ pub struct Telling<'t> {
     pub explain: bool,
     /// Whether each different end is listed once, in place of the leaves.
     pub group: bool,
-    /// The text of the script, the places of whose marks stand beside lines that are told (docs/FROM_A_RUN.md, "Marks").
+    /// The text of the script, the places of whose marks stand beside lines that are told
+    /// (docs/FROM_A_RUN.md, "Marks").
     pub script: &'t [u8],
 }
 
@@ -60,25 +62,41 @@ pub struct SamplePlan {
     pub limits: SearchLimits,
 }
 
-/// The explanations of the leaves of a report, if they are asked for. The debugger is left as
-/// found.
-pub(crate) fn explanations_of<S: Schedule>(
+/// A report by its leaves.
+#[derive(Drop)]
+pub struct Listing {
+    /// What it tells of all of them.
+    pub tally: Tally,
+    /// Those that are shown: all, or if they are grouped the first of each group; with the texts of
+    /// their witnesses, if these are asked for.
+    pub shown: SearchReport,
+    /// The group of each leaf that is shown, if they are grouped.
+    pub groups: Vec<Group>,
+    /// The end of each leaf that is shown, if these are explained.
+    pub ends: Vec<End>,
+}
+
+/// The ends of leaves that were listed along a schedule, if they are asked for. The debugger is
+/// left as found.
+pub(crate) fn ends_if<S: Schedule>(
     alloc: Global,
     schedule: &S,
     debugger: &mut Debugger<'_>,
-    report: &SearchReport,
+    leaves: &[SearchLeaf],
     fuel: usize,
-    asked: bool,
-) -> Result<Vec<String>, AllocError>
+    explain: bool,
+) -> Result<Vec<End>, AllocError>
     requires clean { length debugger.old.trail.steps ≡ debugger.old.trail.depth }
     requires fits { debugger.old.trail.depth + fuel ≤ STEPS_MAX }
-    requires listed { AllByRecursion (HasWitness S.decides debugger.old.trail.program debugger.old.trail.mode (done_steps debugger.old.trail) fuel debugger.old.world) report.now.leaves.items }
-    ensures texts { IfOk result (λ texts. map string_bytes texts.items ≡ explained_at S.decides asked fuel (standing_of debugger.old) report.now.leaves.items) }
+    requires listed { AllByRecursion (HasWitness S.decides debugger.old.trail.program debugger.old.trail.mode (done_steps debugger.old.trail) fuel debugger.old.world) leaves.now }
+    ensures ends { IfOk result (λ ends. ends.items ≡ ends_if S.decides explain fuel (standing_of debugger.old) leaves.now) }
+    ensures as_found { AsFound (standing_of debugger.old) (standing_of debugger.new) }
 {
-    if !asked {
+    debugger.state_is_reached();
+    if !explain {
         return Ok(Vec::new(alloc));
     }
-    explain_all(alloc, schedule, debugger, report, fuel)
+    explain_all(alloc, schedule, debugger, leaves, fuel)
 }
 
 /// The limits by which a report is made: if it is grouped, no texts of witnesses, since those of
@@ -97,115 +115,71 @@ pub(crate) fn limits_for(limits: SearchLimits, telling: Telling<'_>) -> SearchLi
     }
 }
 
-/// The text of a report whose leaves were listed along a schedule. If it is grouped, the first leaf
-/// of each group alone is explained, and has a witness.
-fn text_of<S: Schedule>(
+/// A report whose leaves were listed along a schedule.
+fn listing_of<S: Schedule>(
     alloc: Global,
     schedule: &S,
     debugger: &mut Debugger<'_>,
-    report: &SearchReport,
+    report: SearchReport,
     limits: SearchLimits,
     telling: Telling<'_>,
-) -> Result<String, AllocError>
+) -> Result<Listing, AllocError>
     requires clean { length debugger.old.trail.steps ≡ debugger.old.trail.depth }
     requires fits { debugger.old.trail.depth + limits.fuel ≤ STEPS_MAX }
-    requires listed { AllByRecursion (HasWitness S.decides debugger.old.trail.program debugger.old.trail.mode (done_steps debugger.old.trail) limits.fuel debugger.old.world) report.now.leaves.items }
-    requires texts { telling.group ≡ false → map string_bytes report.now.witnesses.items ≡ witness_texts S.decides limits.witnesses (done_steps debugger.old.trail) limits.fuel debugger.old.world report.now.leaves.items }
-    ensures text { IfOk result (λ t. string_bytes t ≡ listed_at S.decides telling.entry.explain telling.entry.group limits (standing_of debugger.old) report.now.leaves.items report.now.more) }
+    requires listed { AllByRecursion (HasWitness S.decides debugger.old.trail.program debugger.old.trail.mode (done_steps debugger.old.trail) limits.fuel debugger.old.world) report.leaves.items }
+    requires texts { telling.group ≡ false → map string_bytes report.witnesses.items ≡ witness_texts S.decides limits.witnesses (done_steps debugger.old.trail) limits.fuel debugger.old.world report.leaves.items }
+    ensures { IfOk result (IsListing S.decides telling.entry limits (standing_of debugger.old) report.leaves.items report.more) }
 {
-    let fuel = limits.fuel;
-    let explain = telling.explain;
-    if telling.group {
-        let beside = Beside {
-            fuel,
-            witnesses: limits.witnesses,
-            explain,
-        };
-        return print_grouped(alloc, schedule, debugger, report, beside);
-    }
-    let texts = explanations_of(alloc, schedule, debugger, report, fuel, explain)?;
-    print_explained(alloc, report, &texts)
+    let tally = tally_of(&report);
+    let Shown { report, groups } =
+        shown_of(alloc, schedule, debugger, report, limits, telling.group)?;
+    let ends = ends_if(
+        alloc,
+        schedule,
+        debugger,
+        &report.leaves,
+        limits.fuel,
+        telling.explain,
+    )?;
+    Ok(Listing {
+        tally,
+        shown: report,
+        groups,
+        ends,
+    })
 }
 
-/// A text with the places of marks of the script beside lines, if that is asked for.
-pub(crate) fn marked_if(
-    alloc: Global,
-    script: &[u8],
-    text: String,
-    asked: bool,
-) -> Result<Vec<u8>, AllocError>
-    ensures { IfOk result (λ t. t.items ≡ marked_if asked script.now (string_bytes text)) }
-{
-    if !asked {
-        return Ok(text.into_bytes());
-    }
-    marked_text(alloc, script, &text)
-}
-
-/// A text with the places of marks of the script beside lines.
-fn marked_text(alloc: Global, script: &[u8], text: &str) -> Result<Vec<u8>, AllocError>
-    ensures { IfOk result (λ t. t.items ≡ marked script.now text.now) }
-{
-    let mut out = Vec::new(alloc);
-    push_marked(&mut out, script, text.as_bytes())?;
-    Ok(out)
-}
-
-/// The text of a report whose leaves were listed along a schedule, and what it tells.
-fn told_of<S: Schedule>(
-    alloc: Global,
-    schedule: &S,
-    debugger: &mut Debugger<'_>,
-    report: &SearchReport,
-    limits: SearchLimits,
-    telling: Telling<'_>,
-) -> Result<Told, AllocError>
-    requires clean { length debugger.old.trail.steps ≡ debugger.old.trail.depth }
-    requires fits { debugger.old.trail.depth + limits.fuel ≤ STEPS_MAX }
-    requires listed { AllByRecursion (HasWitness S.decides debugger.old.trail.program debugger.old.trail.mode (done_steps debugger.old.trail) limits.fuel debugger.old.world) report.now.leaves.items }
-    requires texts { telling.group ≡ false → map string_bytes report.now.witnesses.items ≡ witness_texts S.decides limits.witnesses (done_steps debugger.old.trail) limits.fuel debugger.old.world report.now.leaves.items }
-    ensures text { IfOk result (λ told. told.text.items ≡ listing_at S.decides telling.entry limits (standing_of debugger.old) report.now.leaves.items report.now.more) }
-    ensures tally { IfOk result (λ told. told.tally ≡ tally_of report.now.leaves.items report.now.more) }
-{
-    let text = text_of(alloc, schedule, debugger, report, limits, telling)?;
-    let tally = tally_of(report);
-    let text = marked_if(alloc, telling.script, text, telling.explain)?;
-    Ok(Told { text, tally })
-}
-
-/// The text of a report that was made with these limits, and what it tells. If it is grouped, it
-/// may be without the texts of witnesses.
-pub(crate) fn told_by(
+/// A report that was made with these limits. If it is grouped, it may be without the texts of
+/// witnesses.
+pub(crate) fn listing_by(
     alloc: Global,
     debugger: &mut Debugger<'_>,
-    report: &SearchReport,
+    report: SearchReport,
     limits: SearchLimits,
     telling: Telling<'_>,
-) -> Result<Told, AllocError>
+) -> Result<Listing, AllocError>
     requires clean { length debugger.old.trail.steps ≡ debugger.old.trail.depth }
     requires fits { debugger.old.trail.depth + limits.fuel ≤ STEPS_MAX }
-    requires listed { AllByRecursion (HasWitness (decides_by limits.ends) debugger.old.trail.program debugger.old.trail.mode (done_steps debugger.old.trail) limits.fuel debugger.old.world) report.now.leaves.items }
-    requires texts { telling.group ≡ false → map string_bytes report.now.witnesses.items ≡ witness_texts (decides_by limits.ends) limits.witnesses (done_steps debugger.old.trail) limits.fuel debugger.old.world report.now.leaves.items }
-    ensures text { IfOk result (λ told. told.text.items ≡ listing_at (decides_by limits.ends) telling.entry limits (standing_of debugger.old) report.now.leaves.items report.now.more) }
-    ensures tally { IfOk result (λ told. told.tally ≡ tally_of report.now.leaves.items report.now.more) }
+    requires listed { AllByRecursion (HasWitness (decides_by limits.ends) debugger.old.trail.program debugger.old.trail.mode (done_steps debugger.old.trail) limits.fuel debugger.old.world) report.leaves.items }
+    requires texts { telling.group ≡ false → map string_bytes report.witnesses.items ≡ witness_texts (decides_by limits.ends) limits.witnesses (done_steps debugger.old.trail) limits.fuel debugger.old.world report.leaves.items }
+    ensures { IfOk result (IsListing (decides_by limits.ends) telling.entry limits (standing_of debugger.old) report.leaves.items report.more) }
 {
     if limits.ends {
-        return told_of(alloc, &Wide, debugger, report, limits, telling);
+        return listing_of(alloc, &Wide, debugger, report, limits, telling);
     }
-    told_of(alloc, &Plain, debugger, report, limits, telling)
+    listing_of(alloc, &Plain, debugger, report, limits, telling)
 }
 
-/// Explores a script from its start by the workers of a crew, and makes the text of the report.
-fn tell_listing<G: Gate, R: Threads + Sync>(
+/// Explores a script from its start by the workers of a crew.
+fn list_all<G: Gate, R: Threads + Sync>(
     crew: Crew<'_, R>,
     alloc: Global,
     subject: Subject<'_>,
     wanted: Wanted<'_>,
     gate: &G,
-) -> Result<Told, PoolFault>
+) -> Result<Listing, PoolFault>
     requires { wanted.plan.limits.fuel ≤ STEPS_MAX }
-    ensures text { IfOk result (λ told. told.text.items ≡ report_listing wanted.entry.telling subject.entry.code.now.program subject.entry.mode wanted.entry.plan.limits (leaves_of subject.entry.code.now.program subject.entry.mode wanted.entry.plan) (more_of subject.entry.code.now.program subject.entry.mode wanted.entry.plan)) }
-    ensures tally { IfOk result (λ told. told.tally ≡ tally_of (leaves_of subject.entry.code.now.program subject.entry.mode wanted.entry.plan) (more_of subject.entry.code.now.program subject.entry.mode wanted.entry.plan)) }
+    ensures listing { IfOk result (IsListing (decides_by wanted.entry.plan.limits.ends) wanted.entry.telling wanted.entry.plan.limits (first_standing subject.entry.code.now.program subject.entry.mode) (leaves_of subject.entry.code.now.program subject.entry.mode wanted.entry.plan) (more_of subject.entry.code.now.program subject.entry.mode wanted.entry.plan)) }
     ensures workers { IsErrOf result PoolFault.BadWorkers → (crew.entry.workers ≡ 0) ⊎ (WORKERS_MAX < crew.entry.workers) }
     ensures few { OnOk result (AreFew subject.entry.code.now.program subject.entry.mode wanted.entry.plan) }
     ensures many { IsErrOf result PoolFault.TooManyPieces → PIECES_MAX < length (pieces_of subject.entry.code.now.program subject.entry.mode wanted.entry.plan) }
@@ -224,23 +198,47 @@ fn tell_listing<G: Gate, R: Threads + Sync>(
             return Err(fault);
         }
     };
-    let told = told_by(
+    let listing = listing_by(
         alloc,
         &mut debugger,
-        &report,
+        report,
         wanted.plan.limits,
         wanted.telling,
     );
-    drop(report);
     drop(debugger);
-    match told {
-        Ok(told) => Ok(told),
+    match listing {
+        Ok(listing) => Ok(listing),
         Err(_) => Err(PoolFault::Memory),
     }
 }
 
-/// Explores a script from its start in a mode, as `check` does, and writes the report with what is
-/// asked for beside its leaves (docs/FORMATS.md, "Reports"). Refused as `check` is.
+/// Explores a script from its start in a mode, as `check` does, and lists the leaves of the report
+/// with what is asked for beside them. Refused as `check` is, but no write can fail. Requires a
+/// fuel of at most 1,000,000 steps. `gate` is told how far the exploration is, and of its end;
+/// nothing else depends on it.
+pub fn list_search<G: Gate, R: Threads + Sync>(
+    crew: Crew<'_, R>,
+    alloc: Global,
+    subject: Subject<'_>,
+    wanted: Wanted<'_>,
+    gate: &G,
+) -> Result<Listing, CheckFault>
+    requires { wanted.plan.limits.fuel ≤ STEPS_MAX }
+    ensures { IsListed wanted.entry.telling subject.entry.code.now.program subject.entry.mode wanted.entry.plan crew.entry.workers result }
+{
+    if !is_crew(crew.workers) {
+        return Err(CheckFault::BadWorkers);
+    }
+    let listed = list_all(crew, alloc, subject, wanted, gate);
+    gate.done();
+    match listed {
+        Ok(listing) => Ok(listing),
+        Err(fault) => Err(refused(fault)),
+    }
+}
+
+/// The same, and the report is written (docs/FORMATS.md, "Reports"): if nothing is asked for beside
+/// its leaves, as `check_search` writes it. Refused as `check` is.
 pub fn check_listing<W: Sink, G: Gate, R: Threads + Sync>(
     crew: Crew<'_, R>,
     alloc: Global,
@@ -252,54 +250,53 @@ pub fn check_listing<W: Sink, G: Gate, R: Threads + Sync>(
     requires { wanted.plan.limits.fuel ≤ STEPS_MAX }
     ensures { ListingAnswered wanted.entry.telling subject.entry.code.now.program subject.entry.mode wanted.entry.plan crew.entry.workers (W.seen sink.old) (W.seen sink.new) result }
 {
-    if !is_crew(crew.workers) {
-        return Err(CheckFault::BadWorkers);
-    }
-    let told = tell_listing(crew, alloc, subject, wanted, gate);
-    gate.done();
-    match told {
-        Ok(told) => put(told, sink),
-        Err(fault) => Err(refused(fault)),
+    match list_search(crew, alloc, subject, wanted, gate) {
+        Ok(listing) => put_listing(alloc, subject.code, wanted.telling, &listing, sink),
+        Err(fault) => Err(fault),
     }
 }
 
-/// Draws runs of a script from its start, and makes the text of the report.
-fn tell_sample<P: Watch>(
+/// Draws runs of a script from its start.
+fn list_drawn<P: Watch>(
     alloc: Global,
     subject: Subject<'_>,
     plan: SamplePlan,
     telling: Telling<'_>,
     watch: &mut P,
-) -> Result<Told, AllocError>
+) -> Result<Listing, AllocError>
     requires { plan.limits.fuel ≤ STEPS_MAX }
-    ensures text { IfOk result (λ told. told.text.items ≡ listing_text wide_decision telling.entry subject.entry.code.now.program subject.entry.mode plan.limits (sample_leaves subject.entry.code.now.program subject.entry.mode plan.seed plan.limits) (sample_more subject.entry.code.now.program subject.entry.mode plan.seed plan.limits)) }
-    ensures tally { IfOk result (λ told. told.tally ≡ tally_of (sample_leaves subject.entry.code.now.program subject.entry.mode plan.seed plan.limits) (sample_more subject.entry.code.now.program subject.entry.mode plan.seed plan.limits)) }
+    ensures { IfOk result (IsListing wide_decision telling.entry plan.limits (first_standing subject.entry.code.now.program subject.entry.mode) (sample_leaves subject.entry.code.now.program subject.entry.mode plan.seed plan.limits) (sample_more subject.entry.code.now.program subject.entry.mode plan.seed plan.limits)) }
 {
     let mut debugger = Debugger::start(alloc, subject.code, subject.mode)?;
     let limits = limits_for(plan.limits, telling);
     let report = sample(alloc, &mut debugger, plan.seed, limits, watch)?;
-    let told = told_of(alloc, &Wide, &mut debugger, &report, plan.limits, telling);
-    drop(report);
+    let listing = listing_of(alloc, &Wide, &mut debugger, report, plan.limits, telling);
     drop(debugger);
-    told
-}
-
-/// Writes the text of a sample, and returns what it tells.
-fn put_sample<W: Sink>(told: Told, sink: &mut W) -> Result<Tally, EngineFault>
-    ensures { PutSample told.text.items told.tally (W.seen sink.old) (W.seen sink.new) result }
-{
-    if write_all(sink, &told.text).is_err() {
-        return Err(EngineFault::WriteFailed);
-    }
-    Ok(told.tally)
+    listing
 }
 
 /// Draws as many runs of the wide walk of a script from its start in a mode as the plan says, by a
-/// generator that is seeded with its number, and writes the report with what is asked for beside
-/// its leaves (docs/FORMATS.md, "Samples"): each different list of choices once, in order. Returns
-/// what the report tells. `WriteFailed` (46) comes only if a write failed, and `Memory` only before
-/// anything is written. Requires a fuel of at most 1,000,000 steps. `watch` is told of each run
-/// that is drawn, and of the end before anything is written; nothing else depends on it.
+/// generator that is seeded with its number, and lists each different list of choices once, in
+/// order, with what is asked for beside it (docs/FORMATS.md, "Samples"). `Err` means that memory
+/// was refused. Requires a fuel of at most 1,000,000 steps. `watch` is told of each run that is
+/// drawn, and of the end; nothing else depends on it.
+pub fn list_sample<P: Watch>(
+    alloc: Global,
+    subject: Subject<'_>,
+    plan: SamplePlan,
+    telling: Telling<'_>,
+    watch: &mut P,
+) -> Result<Listing, AllocError>
+    requires { plan.limits.fuel ≤ STEPS_MAX }
+    ensures { IfOk result (IsListing wide_decision telling.entry plan.limits (first_standing subject.entry.code.now.program subject.entry.mode) (sample_leaves subject.entry.code.now.program subject.entry.mode plan.seed plan.limits) (sample_more subject.entry.code.now.program subject.entry.mode plan.seed plan.limits)) }
+{
+    let listing = list_drawn(alloc, subject, plan, telling, watch);
+    watch.end();
+    listing
+}
+
+/// The same, and the report is written. Returns what it tells. `WriteFailed` (46) comes only if a
+/// write failed, and `Memory` only before anything is written.
 pub fn check_sample<W: Sink, P: Watch>(
     alloc: Global,
     subject: Subject<'_>,
@@ -307,14 +304,12 @@ pub fn check_sample<W: Sink, P: Watch>(
     telling: Telling<'_>,
     sink: &mut W,
     watch: &mut P,
-) -> Result<Tally, EngineFault>
+) -> Result<Tally, CheckFault>
     requires { plan.limits.fuel ≤ STEPS_MAX }
     ensures { SampleAnswered telling.entry subject.entry.code.now.program subject.entry.mode plan.seed plan.limits (W.seen sink.old) (W.seen sink.new) result }
 {
-    let told = tell_sample(alloc, subject, plan, telling, watch);
-    watch.end();
-    match told {
-        Ok(told) => put_sample(told, sink),
-        Err(_) => Err(EngineFault::Memory),
+    match list_sample(alloc, subject, plan, telling, watch) {
+        Ok(listing) => put_listing(alloc, subject.code, telling, &listing, sink),
+        Err(_) => Err(CheckFault::Engine(EngineFault::Memory)),
     }
 }

@@ -1,7 +1,7 @@
 //! What a script does in several modes, a line for each (docs/FORMATS.md, "Modes tried in turn").
 
 ghost use Rattle.std.specs.Prelude.{◌≡◌, ◌++◌, ◌<◌, ◌≤◌, ◌⊎◌, IfOk, OnOk, IsErrOf, Some, None, true, false, length, string_bytes};
-ghost use Rattle.mpd_check.specs.Checked.{pieces_of, leaves_of, more_of, AreFew, ModeAnswered, PutCount, LeastPut};
+ghost use Rattle.mpd_check.specs.Checked.{pieces_of, leaves_of, more_of, AreFew, IsTallied, ModeAnswered, PutCount, LeastPut};
 ghost use Rattle.mpd_check.specs.ModeText.{yes_or_no, listed_word, counts_text, left_text, mode_line, least_line, tried_more};
 ghost use Rattle.mpd_check.specs.Tally.{judged, tally_of};
 
@@ -174,9 +174,32 @@ fn tally_in<G: Gate, R: Threads + Sync>(
     }
 }
 
-/// Explores a script from its start in a mode, as `check` does, and writes one line of what the
-/// report tells: how many runs it lists, how many of them end in a deadlock, with a trap, or cut,
-/// and whether there are more. Refused as `check` is.
+/// Explores a script from its start in a mode, as `check` does, and returns what the report tells:
+/// how many runs it lists, how many of them end in a deadlock, with a trap, or cut, and whether
+/// there are more. Refused as `check` is, but no write can fail. Requires a fuel of at most
+/// 1,000,000 steps.
+pub fn mode_tally<G: Gate, R: Threads + Sync>(
+    crew: Crew<'_, R>,
+    alloc: Global,
+    subject: Subject<'_>,
+    plan: SearchPlan,
+    gate: &G,
+) -> Result<Tally, CheckFault>
+    requires { plan.limits.fuel ≤ STEPS_MAX }
+    ensures { IsTallied subject.entry.code.now.program subject.entry.mode plan crew.entry.workers result }
+{
+    if !is_crew(crew.workers) {
+        return Err(CheckFault::BadWorkers);
+    }
+    let told = tally_in(crew, alloc, subject, plan, gate);
+    gate.done();
+    match told {
+        Ok(tally) => Ok(tally),
+        Err(fault) => Err(refused(fault)),
+    }
+}
+
+/// The same, and one line of what the report tells is written.
 pub fn check_mode<W: Sink, G: Gate, R: Threads + Sync>(
     crew: Crew<'_, R>,
     alloc: Global,
@@ -188,12 +211,7 @@ pub fn check_mode<W: Sink, G: Gate, R: Threads + Sync>(
     requires { plan.limits.fuel ≤ STEPS_MAX }
     ensures { ModeAnswered subject.entry.code.now.program subject.entry.mode plan crew.entry.workers (W.seen sink.old) (W.seen sink.new) result }
 {
-    if !is_crew(crew.workers) {
-        return Err(CheckFault::BadWorkers);
-    }
-    let told = tally_in(crew, alloc, subject, plan, gate);
-    gate.done();
-    match told {
+    match mode_tally(crew, alloc, subject, plan, gate) {
         Ok(tally) => match line_of(alloc, Listed::Leaves, subject.mode, tally) {
             Ok(text) => {
                 let text = text.into_bytes();
@@ -201,7 +219,7 @@ pub fn check_mode<W: Sink, G: Gate, R: Threads + Sync>(
             }
             Err(_) => Err(CheckFault::Engine(EngineFault::Memory)),
         },
-        Err(fault) => Err(refused(fault)),
+        Err(fault) => Err(fault),
     }
 }
 

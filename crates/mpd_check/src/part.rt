@@ -5,16 +5,15 @@ ghost use Rattle.mpd_model.specs.runs.Trail.{first_standing};
 ghost use Rattle.mpd_trail.specs.DebuggerViews.{standing_of};
 ghost use Rattle.mpd_explore.specs.Sleeping.{decides_by};
 ghost use Rattle.mpd_explore.specs.Pieces.{numbered, Reaches};
-ghost use Rattle.mpd_check.specs.Checked.{pieces_of, leaves_at, more_at, count_text, AreFew, Counted, PartAnswered, PartTold};
-ghost use Rattle.mpd_check.specs.Listing.{part_text, plain_part, IsPlain};
+ghost use Rattle.mpd_check.specs.Checked.{pieces_of, leaves_at, more_at, count_text, AreFew, Counted};
+ghost use Rattle.mpd_check.specs.Listing.{IsListing, IsPartListed, PartWritten};
 ghost use Rattle.mpd_check.specs.Refused.{split_refused};
-ghost use Rattle.mpd_check.specs.Tally.{tally_of};
 
 use crate::counts::Tally;
 use crate::fault::CheckFault;
-use crate::listing::{Wanted, limits_for, told_by};
+use crate::listing::{Listing, Wanted, limits_for, listing_by};
 use crate::modes::put_text;
-use crate::{Told, put};
+use crate::print::put_listing;
 use mpd_code::Subject;
 use mpd_explore::{PIECES_MAX, Piece, SplitFault, Watch, explore_at_watched, split_by};
 use mpd_lines::EngineFault;
@@ -93,63 +92,60 @@ pub fn count_pieces<W: Sink>(
     }
 }
 
-/// The text of the part of a report that a piece has, and what it tells. The debugger is at the start of the script.
-fn tell_at<P: Watch>(
+/// The part of a report that a piece has. The debugger is at the start of the script.
+fn list_at<P: Watch>(
     alloc: Global,
     debugger: &mut Debugger<'_>,
     wanted: Wanted<'_>,
     piece: &Piece,
     watch: &mut P,
-) -> Result<Told, AllocError>
+) -> Result<Listing, AllocError>
     requires fuel { wanted.plan.limits.fuel ≤ STEPS_MAX }
     requires standing { standing_of debugger.old ≡ first_standing debugger.old.trail.program debugger.old.trail.mode }
     requires reaches { Reaches (decides_by wanted.plan.limits.ends) wanted.plan.limits.fuel piece.now.choices debugger.old.world }
-    ensures text { IfOk result (λ told. told.text.items ≡ part_text wanted.entry.telling debugger.old.trail.program debugger.old.trail.mode wanted.entry.plan piece.now.choices) }
-    ensures tally { IfOk result (λ told. told.tally ≡ tally_of (leaves_at debugger.old.trail.program debugger.old.trail.mode wanted.entry.plan piece.now.choices) (more_at debugger.old.trail.program debugger.old.trail.mode wanted.entry.plan piece.now.choices)) }
+    ensures { IfOk result (IsListing (decides_by wanted.entry.plan.limits.ends) wanted.entry.telling wanted.entry.plan.limits (standing_of debugger.old) (leaves_at debugger.old.trail.program debugger.old.trail.mode wanted.entry.plan piece.now.choices) (more_at debugger.old.trail.program debugger.old.trail.mode wanted.entry.plan piece.now.choices)) }
 {
     let limits = wanted.plan.limits;
     let asked = limits_for(limits, wanted.telling);
     let report = explore_at_watched(alloc, debugger, &piece.choices.items, asked, watch)?;
-    let told = told_by(alloc, debugger, &report, limits, wanted.telling);
-    drop(report);
-    told
+    listing_by(alloc, debugger, report, limits, wanted.telling)
 }
 
 /// The same of the piece of a number, if there is one. The debugger is at the start of the script.
-fn tell_number<P: Watch>(
+fn list_number<P: Watch>(
     alloc: Global,
     debugger: &mut Debugger<'_>,
     wanted: Wanted<'_>,
     pieces: &[Piece],
     number: usize,
     watch: &mut P,
-) -> Result<Told, CheckFault>
+) -> Result<Listing, CheckFault>
     requires fuel { wanted.plan.limits.fuel ≤ STEPS_MAX }
     requires standing { standing_of debugger.old ≡ first_standing debugger.old.trail.program debugger.old.trail.mode }
     requires pieces { pieces.now ≡ numbered 0 (pieces_of debugger.old.trail.program debugger.old.trail.mode wanted.plan) }
     requires few { AreFew debugger.old.trail.program debugger.old.trail.mode wanted.plan }
-    ensures { PartTold (part_text wanted.entry.telling debugger.old.trail.program debugger.old.trail.mode wanted.entry.plan) debugger.old.trail.program debugger.old.trail.mode wanted.entry.plan number result }
+    ensures { IsPartListed wanted.entry.telling debugger.old.trail.program debugger.old.trail.mode wanted.entry.plan number result }
 {
     let count = pieces.len();
     if number >= count {
         return Err(CheckFault::NoSuchPiece { number, count });
     }
-    match tell_at(alloc, debugger, wanted, &pieces[number], watch) {
-        Ok(told) => Ok(told),
+    match list_at(alloc, debugger, wanted, &pieces[number], watch) {
+        Ok(listing) => Ok(listing),
         Err(_) => Err(CheckFault::Engine(EngineFault::Memory)),
     }
 }
 
 /// The same from the start of a script on.
-fn tell_piece<P: Watch>(
+fn list_from_start<P: Watch>(
     alloc: Global,
     subject: Subject<'_>,
     wanted: Wanted<'_>,
     number: usize,
     watch: &mut P,
-) -> Result<Told, CheckFault>
+) -> Result<Listing, CheckFault>
     requires { wanted.plan.limits.fuel ≤ STEPS_MAX }
-    ensures { PartTold (part_text wanted.entry.telling subject.entry.code.now.program subject.entry.mode wanted.entry.plan) subject.entry.code.now.program subject.entry.mode wanted.entry.plan number result }
+    ensures { IsPartListed wanted.entry.telling subject.entry.code.now.program subject.entry.mode wanted.entry.plan number result }
 {
     let begun = match begin(alloc, subject, wanted.plan) {
         Ok(begun) => begun,
@@ -159,37 +155,33 @@ fn tell_piece<P: Watch>(
         mut debugger,
         pieces,
     } = begun;
-    tell_number(alloc, &mut debugger, wanted, &pieces, number, watch)
+    list_number(alloc, &mut debugger, wanted, &pieces, number, watch)
 }
 
-/// Writes the part of the report that the piece of a number has.
-fn write_piece<W: Sink, P: Watch>(
+/// Explores the runs of a script that the piece of a number has, and lists its part of the report:
+/// its leaves, with what is asked for beside them, and whether it has more. Refused if there are
+/// more than 1,024 pieces (31), or if no piece has the number; `Memory` means that memory was
+/// refused. Requires a fuel of at most 1,000,000 steps. `watch` is told of each leaf as it is
+/// found, and of the end; nothing else depends on it.
+fn list_piece<P: Watch>(
     alloc: Global,
     subject: Subject<'_>,
     wanted: Wanted<'_>,
     number: usize,
-    sink: &mut W,
     watch: &mut P,
-) -> Result<Tally, CheckFault>
+) -> Result<Listing, CheckFault>
     requires { wanted.plan.limits.fuel ≤ STEPS_MAX }
-    ensures { PartAnswered (part_text wanted.entry.telling subject.entry.code.now.program subject.entry.mode wanted.entry.plan) subject.entry.code.now.program subject.entry.mode wanted.entry.plan number (W.seen sink.old) (W.seen sink.new) result }
+    ensures { IsPartListed wanted.entry.telling subject.entry.code.now.program subject.entry.mode wanted.entry.plan number result }
 {
-    let told = tell_piece(alloc, subject, wanted, number, watch);
+    let listed = list_from_start(alloc, subject, wanted, number, watch);
     watch.end();
-    match told {
-        Ok(told) => put(told, sink),
-        Err(fault) => Err(fault),
-    }
+    listed
 }
 
-/// Explores the runs of a script that the piece of a number has, and writes its part of the report
-/// to a sink: its leaves numbered from 0, with what is asked for beside them, and whether it has
-/// more. If nothing is asked for beside them, the parts of all pieces joined in their order, with
-/// their leaves numbered through, are the report of `check`. Refused if there are more than 1,024
-/// pieces (31), or if no piece has the number; `WriteFailed` (46) comes only if a write failed, and
-/// `Memory` only before anything is written. Requires a fuel of at most 1,000,000 steps. `watch` is
-/// told of each leaf as it is found, and of the end before anything is written; nothing else
-/// depends on it.
+/// The same, and the part is written, its leaves numbered from 0. If nothing is asked for beside
+/// them, the parts of all pieces joined in their order, with their leaves numbered through, are the
+/// report of `check`. `WriteFailed` (46) comes only if a write failed, and `Memory` only before
+/// anything is written.
 pub fn check_piece<W: Sink, P: Watch>(
     alloc: Global,
     subject: Subject<'_>,
@@ -199,8 +191,10 @@ pub fn check_piece<W: Sink, P: Watch>(
     watch: &mut P,
 ) -> Result<Tally, CheckFault>
     requires { wanted.plan.limits.fuel ≤ STEPS_MAX }
-    ensures told { PartAnswered (part_text wanted.entry.telling subject.entry.code.now.program subject.entry.mode wanted.entry.plan) subject.entry.code.now.program subject.entry.mode wanted.entry.plan number (W.seen sink.old) (W.seen sink.new) result }
-    ensures plain { IsPlain wanted.entry.telling → PartAnswered (plain_part subject.entry.code.now.program subject.entry.mode wanted.entry.plan) subject.entry.code.now.program subject.entry.mode wanted.entry.plan number (W.seen sink.old) (W.seen sink.new) result }
+    ensures { PartWritten wanted.entry.telling subject.entry.code.now.program subject.entry.mode wanted.entry.plan number (W.seen sink.old) (W.seen sink.new) result }
 {
-    write_piece(alloc, subject, wanted, number, sink, watch)
+    match list_piece(alloc, subject, wanted, number, watch) {
+        Ok(listing) => put_listing(alloc, subject.code, wanted.telling, &listing, sink),
+        Err(fault) => Err(fault),
+    }
 }

@@ -3,3 +3,4 @@ pub mod TellLemmas
 pub mod CallLemmas
 pub mod PastLemmas
 pub mod LostLemmas
+pub mod StepLemmas

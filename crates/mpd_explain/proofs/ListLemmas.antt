@@ -1,6 +1,6 @@
 -- Lists over ranges of numbers, one number at a time.
 use Rattle.std.proofs.Common.{◌≡◌, ℕ, suc, ◌<◌, ◌≤◌, ◌+◌, ◌-◌, Bool, true, false, cond, List, [], ◌∷◌, ◌++◌, map, Option, Some, None, refl, sym, ap, ◌∙◌, arith, append_assoc, append-nil}
-use Rattle.std.specs.List.{filter, range_with_len}
+use Rattle.std.specs.List.{filter, flat_map, range_with_len}
 use Rattle.mpd_model.specs.steps.Why.{first_in}
 
 pub mapped_more : {A : Type 0} (f : ℕ → A) (i n : ℕ) (so_far now total : List A) (x : A) → i < n → so_far ++ map f (range_with_len i (n - i)) ≡ total → now ≡ so_far ++ x ∷ [] → x ≡ f i
@@ -49,3 +49,18 @@ module _ (t : ℕ → Bool) where
       let u : filter t (range_with_len i (n - i)) ≡ cond (t i) (i ∷ filter t (range_with_len (i + 1) (n - (i + 1)))) (filter t (range_with_len (i + 1) (n - (i + 1)))) = rw k refl in
       ap (λ xs. xs ++ filter t (range_with_len (i + 1) (n - (i + 1)))) (more ∙ ap (λ c. so_far ++ cond c (i ∷ []) []) test)
       ∙ sym (filter_split (t i) so_far i (filter t (range_with_len (i + 1) (n - (i + 1))))) ∙ ap (λ xs. so_far ++ xs) (sym u) ∙ e
+
+-- ---- the numbers of a range that pass a test, one number at a time
+
+module _ {A : Type 0} (t : ℕ → Bool) (f : ℕ → List A) where
+  passed_split : (b : Bool) (i : ℕ) (so_far : List A) (xs : List ℕ) → so_far ++ flat_map f (cond b (i ∷ xs) xs) ≡ (so_far ++ cond b (f i) []) ++ flat_map f xs
+  passed_split true i so_far xs = sym (append_assoc so_far (f i) (flat_map f xs))
+  passed_split false i so_far xs = ap (λ ys. ys ++ flat_map f xs) (sym (append-nil so_far))
+
+  pub passed_more : (i n : ℕ) (so_far now total : List A) → i < n → so_far ++ flat_map f (filter t (range_with_len i (n - i))) ≡ total → now ≡ so_far ++ cond (t i) (f i) []
+      → now ++ flat_map f (filter t (range_with_len (i + 1) (n - (i + 1)))) ≡ total
+  passed_more i n so_far now total h e more =
+      let rest : List ℕ = filter t (range_with_len (i + 1) (n - (i + 1))) in
+      let k : n - i ≡ suc (n - (i + 1)) = omega arith in
+      let u : filter t (range_with_len i (n - i)) ≡ cond (t i) (i ∷ rest) rest = rw k refl in
+      ap (λ xs. xs ++ flat_map f rest) more ∙ sym (passed_split (t i) i so_far rest) ∙ ap (λ xs. so_far ++ flat_map f xs) (sym u) ∙ e

@@ -17,3 +17,4 @@ pub mod Whys
 pub mod WhyCodes
 pub mod Past
 pub mod CallLaws
+pub mod StepLaws

@@ -1,5 +1,5 @@
 -- Why a call isn't matched, or isn't complete (docs/CONSOLE.md, "Looks").
-use Rattle.std.specs.Prelude.{Bool, ◌&&◌, if◌then◌else◌, List, [], ◌∷◌, map, slice_get, Option, Some, ◌×◌}
+use Rattle.std.specs.Prelude.{Bool, ◌&&◌, if◌then◌else◌, List, [], ◌∷◌, map, slice_get, Option, Some}
 use Rattle.std.specs.Option.{option_map}
 use Rattle.mpd_model.specs.declared.step.CallId.{CallId}
 use Rattle.mpd_model.specs.declared.call.CallKind.{CallKind}

@@ -1,6 +1,7 @@
 //! The steps that are not undone, each with what it is about (docs/CONSOLE.md, "Looks").
 
 ghost use Rattle.std.specs.Prelude.{◌≡◌, ◌++◌, ◌∷◌, ◌<◌, ◌≤◌, [], IfOk, OnOk, Some, length, drop, slice_get};
+ghost use Rattle.mpd_model.specs.declared.step.Step.{Step};
 ghost use Rattle.mpd_model.specs.steps.Next.{next};
 ghost use Rattle.mpd_model.specs.runs.Trail.{done_steps, redone};
 ghost use Rattle.mpd_explain.specs.Past as past;

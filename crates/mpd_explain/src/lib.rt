@@ -3,7 +3,9 @@
 //! run ended in a deadlock or a trap and what it left over.
 #![tactic(auto)]
 
+pub mod copies;
 pub mod ends;
+pub mod equal;
 pub mod explanation;
 pub mod history;
 pub mod laws;
@@ -20,13 +22,15 @@ pub mod waits;
 pub mod why;
 pub mod words;
 
+pub use copies::{copy_end, copy_losses, copy_steps};
 pub use ends::{
     Absence, AbsenceList, AwaitedRank, AwaitedRankList, CycleList, End, PlacedList, TrapPlace,
     TrapPlaceList, Wait, WaitList, WishList, absences, end_of, outcome_end, tells_of,
 };
+pub use equal::{same_end, same_losses, same_steps};
 pub use explanation::{explain, explain_all};
 pub use history::history_of;
-pub use laws::calls_name_their_statements;
+pub use laws::{calls_name_their_statements, placed_steps_are_their_steps};
 pub use look_words::{
     push_call, push_calls, push_enabled, push_history, push_position, push_queues, push_ranks,
     push_why, push_why_rank, push_why_ranks, push_words,

@@ -4,3 +4,4 @@ pub mod StandLemmas
 pub mod SourceLemmas
 pub mod JoinLemmas
 pub mod PlacedLemmas
+pub mod EqualLemmas

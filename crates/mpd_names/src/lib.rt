@@ -4,7 +4,9 @@
 
 mod bytes;
 mod cells;
+pub mod copies;
 pub mod ends;
+pub mod equal;
 pub mod find;
 pub mod holding;
 pub mod list;
@@ -17,7 +19,9 @@ pub mod standing;
 pub mod text;
 pub mod values;
 
+pub use copies::copy_holdings;
 pub use ends::{end_name, push_end, push_end_places};
+pub use equal::{same_call, same_holdings, same_stands};
 pub use find::find_named;
 pub use holding::{Held, HeldCalls, HeldValues, Holding, HoldingList, held_in, holdings, reads};
 pub use list::{push_list, push_list_about};

@@ -18,7 +18,7 @@ AreInRange o =
 
 -- each number that a command is given
 abbrev pub IsToolInRange : ToolOptions → Type 0
-IsToolInRange (tool.Diagnose _ _ modes _ _) = IfSome modes (λ n. n ≤ 1000)
+IsToolInRange (tool.Diagnose _ _ modes _ _ _) = IfSome modes (λ n. n ≤ 1000)
 IsToolInRange (tool.Debug _ _ _ _ _ _ width _ height) = IsFrom 20 1000 width × IsFrom 10 1000 height
 IsToolInRange (tool.Serve _ _ port clients _) = IsFrom 1 65535 port × IsFrom 1 16 clients
 IsToolInRange (tool.Check _ _ options) = AreInRange options

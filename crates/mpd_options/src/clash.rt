@@ -2,7 +2,7 @@
 ghost use Rattle.std.specs.Prelude.{◌≡◌};
 ghost use Rattle.mpd_options.specs.Clashes.{wants_traps};
 
-use crate::options::CheckOptions;
+use crate::options::{CheckOptions, Form};
 
 /// An option of `check` that can't be combined with some other.
 #[derive(Clone, Copy)]
@@ -13,6 +13,8 @@ pub enum CheckOption {
     Ends,
     /// `--group`.
     Group,
+    /// `--json`.
+    Json,
     /// `--modes`.
     Modes,
     /// `--outcomes`.
@@ -38,6 +40,7 @@ impl CheckOption {
             CheckOption::Complete => "--complete",
             CheckOption::Ends => "--ends",
             CheckOption::Group => "--group",
+            CheckOption::Json => "--json",
             CheckOption::Modes => "--modes",
             CheckOption::Outcomes => "--outcomes",
             CheckOption::Piece => "--piece",
@@ -116,9 +119,9 @@ impl CheckOptions {
         None
     }
 
-    /// The first option that was given and can't be combined with `--complete`: what is asked of a
-    /// piece, or of how many there are, tells nothing of all runs.
-    fn beside_complete(self) -> Option<CheckOption> {
+    /// The first option that was given and can't be combined with `--complete` or `--json`: what is
+    /// asked of a piece, or of how many there are, tells nothing of all runs, and is no report.
+    fn of_pieces(self) -> Option<CheckOption> {
         if self.piece.is_some() {
             return Some(CheckOption::Piece);
         }
@@ -146,7 +149,7 @@ impl CheckOptions {
     /// Why these options can't be combined; `None` if they can. That `--traps` is alone comes first,
     /// then what can't be combined with `--outcomes`, then that `--states` is alone, then what can't
     /// be combined with `--sample`, then that `--seed` is alone, then what can't be combined with
-    /// `--complete`.
+    /// `--complete`, and then with `--json`.
     pub fn clash(self) -> Option<Clash> {
         if self.traps && !self.witness {
             return Some(Clash::TrapsAlone);
@@ -169,12 +172,13 @@ impl CheckOptions {
         if self.seed.is_some() {
             return Some(Clash::SeedAlone);
         }
+        let other = self.of_pieces()?;
         if self.complete {
-            return match self.beside_complete() {
-                Some(other) => Some(Clash::Both(CheckOption::Complete, other)),
-                None => None,
-            };
+            return Some(Clash::Both(CheckOption::Complete, other));
         }
-        None
+        match self.form {
+            Form::Json => Some(Clash::Both(CheckOption::Json, other)),
+            Form::Text => None,
+        }
     }
 }

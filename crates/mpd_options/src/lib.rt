@@ -10,6 +10,6 @@ pub mod read;
 pub mod table;
 
 pub use clash::{CheckOption, Clash};
-pub use options::{CheckOptions, Options, PageOptions, ToolOptions, UsageFault};
+pub use options::{CheckOptions, Form, Options, PageOptions, ToolOptions, UsageFault};
 pub use read::read_options;
 pub use table::Tool;

@@ -10,6 +10,15 @@ use std::fmt;
 const NOT_TEXT: &str =
     "error: invalid UTF-8 was detected in one or more arguments\n\nFor more information, try '--help'.\n";
 
+/// How what is found is written.
+#[derive(Clone, Copy)]
+pub enum Form {
+    /// As text.
+    Text,
+    /// As a JSON object on a line.
+    Json,
+}
+
 /// How deadlocks are looked for.
 #[derive(Clone, Copy)]
 pub struct CheckOptions {
@@ -55,6 +64,8 @@ pub struct CheckOptions {
     pub piece: Option<usize>,
     /// Whether it is only asked how many pieces there are.
     pub count_pieces: bool,
+    /// How each report is written.
+    pub form: Form,
 }
 
 /// Which runs of the script of a file a page shows, and how.
@@ -99,6 +110,8 @@ pub enum ToolOptions<'a> {
         strict: bool,
         /// The word of how many ranks run the script, one number or several, unchecked; optional.
         ranks: Option<&'a str>,
+        /// How each diagnosis is written.
+        form: Form,
     },
     /// Trace the script of a file, by trace words on standard input.
     Trace {

@@ -9,7 +9,7 @@ use crate::number::{
     CLIENTS, FUEL, HEIGHT, LEAF, MODES, PAGED_RUNS, PAGED_STATES, PIECE, PORT, RANKS, RUNS, SAMPLE,
     SEED, SPLIT, STATES, WIDTH, WORKERS,
 };
-use crate::options::{CheckOptions, Options, PageOptions, ToolOptions, UsageFault};
+use crate::options::{CheckOptions, Form, Options, PageOptions, ToolOptions, UsageFault};
 use crate::table::{Name, Tool, tool_named};
 use clap::ArgMatches;
 use clap::error::ErrorKind;
@@ -58,6 +58,14 @@ fn mode<'a>(matches: &ArgMatches<'a>) -> &'a str {
 /// Whether the flag of a row was given.
 fn is_on(matches: &ArgMatches<'_>, name: Name) -> bool {
     matches.get_flag(name.item().id)
+}
+
+/// How what is found is written, by the flag of a row.
+fn form(matches: &ArgMatches<'_>, name: Name) -> Form {
+    if is_on(matches, name) {
+        return Form::Json;
+    }
+    Form::Text
 }
 
 /// What the words after `trace` ask for.
@@ -111,6 +119,7 @@ fn diagnose_in<'a>(diagnose: &ArgMatches<'a>) -> ToolOptions<'a>
         modes: MODES.given(diagnose),
         strict: is_on(diagnose, Name::Strict),
         ranks: text(diagnose, Name::RankSpan),
+        form: form(diagnose, Name::ToldJson),
     }
 }
 
@@ -165,6 +174,7 @@ fn check_options_in(check: &ArgMatches<'_>) -> CheckOptions
         complete: is_on(check, Name::Complete),
         piece: PIECE.given(check),
         count_pieces: is_on(check, Name::Pieces),
+        form: form(check, Name::Json),
     }
 }
 

@@ -67,6 +67,8 @@ pub(crate) enum Name {
     Complete,
     Piece,
     Pieces,
+    Json,
+    ToldJson,
     Leaf,
     NeededChoices,
     LaidChoices,
@@ -328,6 +330,14 @@ impl Name {
                 "pieces",
                 "Print how many pieces there are, and nothing else",
             ),
+            Name::Json => flag(
+                "json",
+                "Print each report as a JSON object on a line, in place of text; not beside --piece or --pieces",
+            ),
+            Name::ToldJson => flag(
+                "json",
+                "Print each diagnosis as a JSON object on a line, in place of text",
+            ),
             Name::Leaf => number(
                 LEAF,
                 "N",
@@ -450,6 +460,7 @@ impl Tool {
                 Name::GivenMode,
                 Name::Modes,
                 Name::Strict,
+                Name::ToldJson,
             ],
             Tool::Trace => &[Name::File, Name::Ranks, Name::Mode, Name::Echo],
             Tool::Run => &[Name::File, Name::Ranks, Name::Mode, Name::Wide],
@@ -503,6 +514,7 @@ impl Tool {
                 Name::Complete,
                 Name::Piece,
                 Name::Pieces,
+                Name::Json,
             ],
             Tool::Verify => &[
                 Name::File,

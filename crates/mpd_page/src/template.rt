@@ -79,39 +79,82 @@ mark { background: var(--mark); color: inherit; border-bottom: 2px solid var(--i
 #choice button.on { background: var(--tint); border: 2px solid var(--choice); font-weight: 700; }\n\
 #choice button > :last-child { margin-left: auto; white-space: nowrap; font-weight: 400; }\n\
 #choice button:disabled { flex-wrap: wrap; } #choice button:disabled > :last-child { flex-basis: 100%; margin: 0 0 0 1.6rem; white-space: normal; }\n\
-.told { display: flex; gap: .8rem; align-items: center; }\n\
+.told { display: flex; gap: .8rem; align-items: flex-start; }\n\
 .told > div { flex: 1; }\n\
 .told p { padding-left: 2ch; text-indent: -2ch; }\n\
 button { font: inherit; color: inherit; background: var(--paper); border: 1px solid var(--soft); border-radius: .35rem; cursor: pointer; }\n\
 button:disabled { color: var(--soft); cursor: default; border-style: dashed; }\n\
-footer { display: grid; grid-template-columns: auto minmax(0, 1fr) auto; gap: 1rem; align-items: center; padding: .3rem .9rem; background: var(--paper); border-top: 1px solid var(--rule); }\n\
+footer { display: grid; grid-template-columns: auto minmax(0, 1fr) auto; gap: .3rem 1rem; align-items: center; padding: .3rem .9rem; background: var(--paper); border-top: 1px solid var(--rule); }\n\
 footer button { padding: .25rem .6rem; font-weight: 700; }\n\
+#keys { font-size: .85rem; } #keys button { padding: .2rem .4rem; font-weight: 400; } kbd { font: 700 1em ui-monospace, \"DejaVu Sans Mono\", monospace; color: var(--choice); }\n\
+#aloud { position: absolute; width: 1px; height: 1px; overflow: hidden; clip-path: inset(50%); } #lanes svg, [data-step] { cursor: pointer; } circle[class=\"\"] { fill: var(--ink); }\n\
 #track { position: relative; padding-top: 1.15rem; } #track input { width: 100%; margin: 0; display: block; }\n\
 #marks { position: absolute; left: 8px; right: 8px; top: 0; }\n\
 #marks span { position: absolute; transform: translateX(-50%); cursor: pointer; font-size: .95rem; line-height: 1.2; } #marks .choice { color: var(--choice); }\n\
-@media (max-width: 1100px) { footer { grid-template-columns: auto minmax(0, 1fr); } #keys { grid-column: 1 / -1; } }\n\
+@media (max-width: 1240px) { footer { grid-template-columns: auto minmax(0, 1fr); } #keys { grid-column: 1 / -1; } }\n\
+@media (max-height: 600px) { #lanes { max-height: 22vh; } }\n\
 @media print { :root { color-scheme: light; font-size: 11pt; } html, body { height: auto; } body, main, .side { display: block; background: #fff; } footer, #treepane, #table { display: none; }\n\
 \x20 .pane { border: 0; overflow: visible; max-height: none !important; break-inside: avoid; } #lanes svg { width: 100%; height: auto; } * { print-color-adjust: exact; } }\n\
 </style>\n\
 </head>\n\
 <body>\n\
-<header><div><h1 id=\"name\">No run stands on this page</h1><span id=\"about\" class=\"soft\"></span><span id=\"verdict\"></span></div><p id=\"step\" role=\"status\"></p></header>\n\
+<header><div><h1 id=\"name\">No run stands on this page</h1><span id=\"about\" class=\"soft\"></span><span id=\"verdict\"></span></div><p id=\"step\" role=\"status\"></p><p id=\"aloud\" role=\"status\"></p></header>\n\
 <main>\n\
-<div class=\"side\" id=\"left\">\n\
+<div class=\"side\" id=\"left\">\n";
+
+/// What stands before the data: part 3 of 3.
+pub const HEAD_2: &str = "\
 <section class=\"pane\" aria-labelledby=\"h-source\" tabindex=\"0\"><h2 id=\"h-source\">Script, and where ranks stand</h2><div id=\"source\"></div></section>\n\
 <section class=\"pane\" id=\"treepane\" aria-labelledby=\"h-tree\"><h2 id=\"h-tree\">Runs</h2><div id=\"tree\" tabindex=\"0\"></div></section>\n\
 </div>\n\
 <div class=\"side\" id=\"right\">\n\
-<section class=\"pane\" id=\"lanes\" aria-label=\"Lanes of the ranks\" tabindex=\"0\"></section>\n";
-
-/// What stands before the data: part 3 of 3.
-pub const HEAD_2: &str = "\
+<section class=\"pane\" id=\"lanes\" aria-label=\"Lanes of the ranks\" tabindex=\"0\"></section>\n\
 <section class=\"pane\" aria-label=\"What happens now\" tabindex=\"0\"><div id=\"choice\" class=\"box\" hidden></div><div id=\"told\" hidden></div><table id=\"table\"></table></section>\n\
 </div>\n\
 </main>\n\
-<footer><span><button data-go=\"start\" title=\"To the start (Home)\">|&lt;</button> <button data-go=\"back\" title=\"A step back (left)\">&lt;</button> <button data-go=\"on\" title=\"A step on (right)\">&gt;</button> <button data-go=\"end\" title=\"To the end (End)\">&gt;|</button></span>\n\
+<footer><span><button data-go=\"Home\" title=\"To the start (Home)\">|&lt;</button> <button data-go=\"ArrowLeft\" title=\"A step back (left)\">&lt;</button> <button data-go=\"ArrowRight\" title=\"A step on (right)\">&gt;</button> <button data-go=\"End\" title=\"To the end (End)\">&gt;|</button></span>\n\
 <div id=\"track\"><div id=\"marks\"></div><input type=\"range\" id=\"slider\" min=\"0\" value=\"0\" aria-label=\"Step\"></div>\n\
-<span id=\"keys\" class=\"soft\">&larr; &rarr; step &ensp; c u choice &ensp; 1 2 .. take &ensp; b decides<span id=\"uncover\"></span></span></footer>\n\
+<span id=\"keys\"><button data-go=\"c\" title=\"To the next choice\">next choice <kbd>c</kbd></button> <button data-go=\"u\" title=\"To the choice before\">last choice <kbd>u</kbd></button>\n\
+<button data-go=\"m\" title=\"To where the next message is taken\">message <kbd>m</kbd></button> <button data-go=\"r\" title=\"To the next step of the rank that took this one\">same rank <kbd>r</kbd></button>\n\
+<button data-go=\"b\" id=\"decides\" title=\"To the step that decides\">decides <kbd>b</kbd></button> <button data-go=\"h\" id=\"uncover\"></button></span></footer>\n\
+<script>\n\
+'use strict';\n\
+// Draws a part of the page anew. What had the focus there is another element then, which has it in its place.\n\
+function keepFocus(draw) {\n\
+\x20 const was = document.activeElement || document.body, box = was.closest('#choice, #tree'), [name] = Object.keys(was.dataset);\n\
+\x20 draw();\n\
+\x20 if (box && !was.isConnected) (box.querySelector(`[data-${name}=\"${was.dataset[name]}\"]:not([disabled])`) || box.closest('[tabindex]')).focus({ preventScroll: true });\n\
+}\n\
+// What is said aloud of a choice and of an end.\n\
+const sayAloud = () => el('aloud').textContent = ['choice', 'told'].filter(id => !el(id).hidden).map(id => el(id).querySelector('h3, p').textContent).join('. ');\n\
+// The address holds the moment.\n\
+function note() {\n\
+\x20 history.replaceState(null, '', `#run=${endOf()}&step=${k}`);\n\
+}\n\
+// Takes a candidate of the choice that is shown.\n\
+function take(c) {\n\
+\x20 const i = run[k], j = isChoice(i) && nodes[i].k[c] ? taken(i, c) : undefined;\n\
+\x20 if (j !== undefined) choose(under[j].includes(endOf()) ? endOf() : under[j][0], k + 1);\n\
+}\n\
+// To the next step of which something holds; else to the end.\n\
+function goNext(holds) {\n\
+\x20 const d = facts.findIndex((fact, d) => d > k && holds(fact));\n\
+\x20 go(d < 0 ? last() : d);\n\
+}\n\
+// Whether a step is one of rank p, as that of all ranks is; of no rank in particular each step is one.\n\
+const isOf = (fact, p) => p === undefined || fact.rank === undefined || fact.rank === p || fact.kind === 'match' && two(fact.send)[0] === p;\n\
+// Ranks so that one stands next to the one that it waits for: a cycle stands in its order.\n\
+function inOrder(ranks, edges) {\n\
+\x20 const found = [];\n\
+\x20 for (let p of ranks) while (p !== undefined && !found.includes(p)) { found.push(p); p = (edges.find(([a, b]) => a === p && !found.includes(b)) || [])[1]; }\n\
+\x20 return found;\n\
+}\n\
+// The moment that is nearest to a place in the lanes.\n\
+function momentAt(event) {\n\
+\x20 const svg = event.target.closest('#lanes svg'), x = svg && (event.clientX - svg.getBoundingClientRect().left) / unit;\n\
+\x20 if (svg && x > el('lanes').scrollLeft / unit + NAME) return xs.reduce((best, at, d) => Math.abs(at - x) < Math.abs(xs[best] - x) ? d : best, 0);\n\
+}\n\
+</script>\n\
 <script type=\"application/json\" id=\"run\">";
 
 /// What stands after the data: part 1 of 8.
@@ -222,17 +265,11 @@ function go(depth) {\n\
 \x20 S = stateOf(run.slice(0, k + 1));\n\
 \x20 el('slider').value = k;\n\
 \x20 el('step').innerHTML = `<b>${k ? `step ${k} of ${last()}` : `start, ${last()} steps`}</b>` + (k ? ` &ensp;${inWords(facts[k], S)}` : '');\n\
-\x20 for (const part of [source, choice, told, table, marks, tree]) part();\n\
+\x20 keepFocus(() => [source, choice, told, table, marks, tree].forEach(part => part()));\n\
+\x20 sayAloud();\n\
 \x20 follow();\n\
 \x20 clearTimeout(later);\n\
 \x20 later = setTimeout(note, 200); // browsers refuse many at once\n\
-}\n\
-function note() {\n\
-\x20 history.replaceState(null, '', `#run=${endOf()}&step=${k}`);\n\
-}\n\
-function take(c) {\n\
-\x20 const i = run[k], j = isChoice(i) && nodes[i].k[c] ? taken(i, c) : undefined;\n\
-\x20 if (j !== undefined) choose(under[j].includes(endOf()) ? endOf() : under[j][0], k + 1);\n\
 }\n\
 // The step that decides: of this run, or else of another that goes the same way up to there.\n\
 function deciding() {\n\
@@ -262,13 +299,13 @@ function source() {\n\
 // ---- lanes: time goes to the right, a lane for each rank\n\
 const TOP = 36, NAME = N > 10 ? 80 : 64;\n\
 let xs = [], gap = 60, wide = 60, unit = 1;\n\
-\n";
+\n\
+// The place of each step: those that show something get more room.\n\
+function layout() {\n\
+\x20 unit = parseFloat(getComputedStyle(document.documentElement).fontSize) / 16;\n";
 
 /// What stands after the data: part 3 of 8.
 pub const TAIL_2: &str = "\
-// The place of each step: those that show something get more room.\n\
-function layout() {\n\
-\x20 unit = parseFloat(getComputedStyle(document.documentElement).fontSize) / 16;\n\
 \x20 const room = Math.max(300, el('lanes').clientWidth / unit - NAME - 60), many = facts.slice(1).filter(shows).length, few = last() - many;\n\
 \x20 const small = Math.min(14, Math.max(7, room / (many * 3.5 + few + 1)));\n\
 \x20 wide = Math.min(78, Math.max(34, (room - few * small) / Math.max(1, many)));\n\
@@ -279,7 +316,7 @@ function layout() {\n\
 const laneY = p => TOP + gap * (p + .5);\n\
 const svgText = (x, y, text, kind = 'mid') => `<text x=\"${x}\" y=\"${y}\" class=\"${kind}\">${text}</text>`;\n\
 const svgLine = (x1, y1, x2, y2, kind, more = '') => `<line x1=\"${x1}\" y1=\"${y1}\" x2=\"${x2}\" y2=\"${y2}\" class=\"${kind}\" ${more}/>`;\n\
-const svgGroup = (p, title, body, isNew) => `<g ${colour(p)} ${isNew ? 'class=\"new\"' : ''}><title>${esc(title)}</title>${body}</g>`;\n\
+const svgGroup = (p, title, body, isNew, d) => `<g ${colour(p)} ${isNew ? 'class=\"new\"' : ''} ${d ? `data-step=\"${d}\"` : ''}><title>${esc(title)}</title>${body}</g>`;\n\
 \n\
 // An arrow from one place to another, with its tip; to the same lane it is bent.\n\
 function arrow(x1, y1, x2, y2) {\n\
@@ -311,17 +348,17 @@ function lanes() {\n\
 \x20   if (fact.call) {\n\
 \x20     const word = fact.text.split(' ')[0], isUp = /send/.test(word) && target(fact) < p;\n\
 \x20     issued[fact.call] = { x, p, text: fact.text, to: null };\n\
-\x20     if (seen(x, x)) over.push(svgGroup(p, `line ${fact.line}, ${fact.call} ${named(fact.text, p)}`, halo + glyph(x, y, word) + (large ? svgText(x, isUp ? y + 21 : y - (word === 'barrier' ? gap * .3 + 4 : 11), wide > 50 ? `${fact.line} ${word}` : fact.line, isNew ? 'mid bold' : 'mid') : ''), isNew));\n\
+\x20     if (seen(x, x)) over.push(svgGroup(p, `line ${fact.line}, ${fact.call} ${named(fact.text, p)}`, halo + glyph(x, y, word) + (large ? svgText(x, isUp ? y + 21 : y - (word === 'barrier' ? gap * .3 + 4 : 11), wide > 50 ? `${fact.line} ${word}` : fact.line, isNew ? 'mid bold' : 'mid') : ''), isNew, d));\n\
 \x20     if ((nodes[run[d]].d || []).some(([q, , how]) => q === p && how === 'blocked')) since[p] = x;\n\
 \x20   } else if (fact.kind === 'match') {\n\
 \x20     const send = issued[fact.send], value = send.text.split(' ')[6];\n\
 \x20     send.to = issued[fact.receive].to = x;\n\
-\x20     if (seen(send.x, x)) {\n";
+\x20     if (seen(send.x, x)) {\n\
+\x20       const lx = send.x + (x - send.x) * .5, ly = laneY(send.p) + (y - laneY(send.p)) * .5 + (send.p === p ? gap * .5 : 0), w = 8 * value.length + 8;\n";
 
 /// What stands after the data: part 4 of 8.
 pub const TAIL_3: &str = "\
-\x20       const lx = send.x + (x - send.x) * .5, ly = laneY(send.p) + (y - laneY(send.p)) * .5 + (send.p === p ? gap * .5 : 0), w = 8 * value.length + 8;\n\
-\x20       over.push(svgGroup(send.p, `${fact.send} to ${fact.receive}: ${message(send)}`, arrow(send.x, laneY(send.p), x, y) + `<rect x=\"${lx - w / 2}\" y=\"${ly - 8}\" width=\"${w}\" height=\"16\" rx=\"4\" class=\"open\" style=\"stroke-width:1\"/>` + svgText(lx, ly + 4, value, 'mid bold'), isNew));\n\
+\x20       over.push(svgGroup(send.p, `${fact.send} to ${fact.receive}: ${message(send)}`, arrow(send.x, laneY(send.p), x, y) + `<rect x=\"${lx - w / 2}\" y=\"${ly - 8}\" width=\"${w}\" height=\"16\" rx=\"4\" class=\"open\" style=\"stroke-width:1\"/>` + svgText(lx, ly + 4, value, 'mid bold'), isNew, d));\n\
 \x20     }\n\
 \x20   } else if (fact.kind === 'release') {\n\
 \x20     if (seen(x, x)) over.push(`<g><title>release: all ranks leave the barrier</title>${svgLine(x, laneY(0) - 12, x, laneY(N - 1) + 12, 'bar')}</g>`);\n\
@@ -348,7 +385,7 @@ pub const TAIL_3: &str = "\
 \x20   const y = laneY(p), how = doing(S.place[p]), x = stops[p];\n\
 \x20   if (how === 'ended') over.push(svgGroup(p, `rank ${p} has ended`, svgLine(x + 2, y - 9, x + 2, y + 9, 'lane', 'style=\"stroke-width:4\"')));\n\
 \x20   if (how === 'trapped') over.push(`<g><title>rank ${p} is trapped</title><path d=\"M${x - 7} ${y - 7}l14 14m0 -14l-14 14\" style=\"stroke:var(--bad);stroke-width:4\"/></g>`);\n\
-\x20   if (how === 'blocked' && k === last() && !covered) over.push(`<g><title>rank ${p} is blocked</title><path d=\"M${now - 4} ${y - 9}h8l5 5v8l-5 5h-8l-5 -5v-8z\" class=\"bad\"/><text x=\"${now}\" y=\"${y + 4.5}\" class=\"mid bold\" style=\"fill:var(--paper)\">!</text></g>`);\n\
+\x20   if (how === 'blocked' && k === last() && !covered && ends[endOf()].outcome !== 'cut') over.push(`<g><title>rank ${p} is blocked</title><path d=\"M${now - 4} ${y - 9}h8l5 5v8l-5 5h-8l-5 -5v-8z\" class=\"bad\"/><text x=\"${now}\" y=\"${y + 4.5}\" class=\"mid bold\" style=\"fill:var(--paper)\">!</text></g>`);\n\
 \x20   names.push(`<g ${colour(p)}>${svgText(left + 6, y + 5, `rank ${p}`, 'rank')}</g>`);\n\
 \x20 }\n\
 \x20 const marks = choices().filter(d => seen(xs[d], xs[d])).map(d => `<g data-step=\"${d}\"><title>a choice of ${nodes[run[d]].k.length}</title>${svgLine(xs[d], 30, xs[d], height, 'hand', 'style=\"stroke:var(--choice);stroke-opacity:.5\"')}<path d=\"M${xs[d]} 15l7 7l-7 7l-7 -7z\" class=\"dia ${d === k ? 'here' : ''}\"/></g>`);\n\
@@ -364,11 +401,11 @@ function follow() {\n\
 \n\
 // ---- the choice, and the step that decides\n\
 const SIGN = { done: '\\u2714', leftovers: '\\u25b2', cut: '\\u2026', deadlock: '\\u2716', trap: '\\u2716' };\n\
-const wordOf = outcome => outcome.split(' ')[0];\n";
+const wordOf = outcome => outcome.split(' ')[0];\n\
+const kindOf = outcome => /^(deadlock|trap)/.test(outcome) ? 'bad' : wordOf(outcome) === 'done' ? 'good' : 'warn';\n";
 
 /// What stands after the data: part 5 of 8.
 pub const TAIL_4: &str = "\
-const kindOf = outcome => /^(deadlock|trap)/.test(outcome) ? 'bad' : wordOf(outcome) === 'done' ? 'good' : 'warn';\n\
 const sign = outcome => covered ? '?' : `<b class=\"${kindOf(outcome)}\">${SIGN[wordOf(outcome)]}</b> ${wordOf(outcome)}`;\n\
 \n\
 function howEnds(list) {\n\
@@ -418,12 +455,12 @@ function waitGraph(lines) {\n\
 \x20   return found ? [...found[2].matchAll(/rank (\\d+)( \\(ended\\))?/g)].map(m => [+found[1], +m[1], !!m[2]]) : [];\n\
 \x20 });\n\
 \x20 if (!edges.length) return '';\n\
-\x20 const ranks = [...new Set(edges.flatMap(([a, b]) => [a, b]))].sort((a, b) => a - b), R = 26 + 6 * ranks.length, C = R + 30, at = {};\n";
+\x20 const ranks = inOrder([...new Set(edges.flatMap(([a, b]) => [a, b]))].sort((a, b) => a - b), edges), R = 26 + 6 * ranks.length, C = R + 30, at = {};\n\
+\x20 ranks.forEach((p, i) => { const turn = 2 * Math.PI * i / ranks.length - Math.PI / 2; at[p] = [C + R * Math.cos(turn), C + R * Math.sin(turn)]; });\n\
+\x20 const edge = ([a, b, isOver]) => {\n";
 
 /// What stands after the data: part 6 of 8.
 pub const TAIL_5: &str = "\
-\x20 ranks.forEach((p, i) => { const turn = 2 * Math.PI * i / ranks.length - Math.PI / 2; at[p] = [C + R * Math.cos(turn), C + R * Math.sin(turn)]; });\n\
-\x20 const edge = ([a, b, isOver]) => {\n\
 \x20   const [x1, y1] = at[a], [x2, y2] = at[b], far = Math.hypot(x2 - x1, y2 - y1) || 1, ux = (x2 - x1) / far, uy = (y2 - y1) / far, off = edges.some(([c, d]) => c === b && d === a) ? 6 : 0;\n\
 \x20   if (a === b) return `<circle cx=\"${x1 + 15}\" cy=\"${y1 - 13}\" r=\"10\" class=\"arrow\" style=\"--c:var(--ink)\"/>`;\n\
 \x20   const px = x2 - 17 * ux - off * uy, py = y2 - 17 * uy + off * ux, tip = side => `${px - 9 * ux + side * 4.5 * uy} ${py - 9 * uy - side * 4.5 * ux}`;\n\
@@ -449,7 +486,7 @@ function valuesOf(p, names, kind, show) {\n\
 \x20 }).join('');\n\
 }\n\
 function token(p, i, text, may) {\n\
-\x20 return `<span class=\"token code ${may.has(`${p}.${i}`) ? 'may' : ''}\" ${colour(p)} title=\"line ${S.calls[p][i].line}, ${p}.${i} ${esc(S.calls[p][i].text)}\">${marked(`c${p}.${i}`, text)}</span>`;\n\
+\x20 return `<span class=\"token code ${may.has(`${p}.${i}`) ? 'may' : ''}\" ${colour(p)} data-step=\"${facts.findIndex(fact => fact && fact.call === `${p}.${i}`)}\" title=\"line ${S.calls[p][i].line}, ${p}.${i} ${esc(S.calls[p][i].text)}\">${marked(`c${p}.${i}`, text)}</span>`;\n\
 }\n\
 function request(p, cell) {\n\
 \x20 const call = S.calls[p][S.requests[p][cell]];\n\
@@ -468,12 +505,12 @@ function table() {\n\
 \x20   ['printed', p => S.printed[p].map((value, i) => marked(`o${p}.${i}`, value)).join(' '), +nodes.some(node => node.o)],\n\
 \x20 ].filter(column => column[2] !== 0);\n\
 \x20 const rows = S.place.map((_, p) => `<tr>${columns.map(([, show]) => `<td>${show(p)}</td>`).join('')}</tr>` +\n\
-\x20   (S.why[p] ? `<tr class=\"why soft\"><td></td><td colspan=\"${columns.length - 1}\">${whyText(p)}</td></tr>` : ''));\n";
+\x20   (S.why[p] ? `<tr class=\"why soft\"><td></td><td colspan=\"${columns.length - 1}\">${whyText(p)}</td></tr>` : ''));\n\
+\x20 el('table').innerHTML = `<caption>Ranks (what the last step changed is underlined)</caption><tr>${columns.map(([name]) => `<th scope=\"col\">${name}</th>`).join('')}</tr>${rows.join('')}`;\n\
+}\n";
 
 /// What stands after the data: part 7 of 8.
 pub const TAIL_6: &str = "\
-\x20 el('table').innerHTML = `<caption>Ranks (what the last step changed is underlined)</caption><tr>${columns.map(([name]) => `<th scope=\"col\">${name}</th>`).join('')}</tr>${rows.join('')}`;\n\
-}\n\
 // Why a rank waits: for each call that it waits for, with what that can be matched.\n\
 function whyText(p) {\n\
 \x20 const calls = S.calls[p], own = `<code>${esc(named(calls[calls.length - 1].text, p))}</code>`, isEnd = k === last() && !covered && ends[endOf()].outcome !== 'cut';\n\
@@ -518,42 +555,45 @@ function tree() {\n\
 \x20 }\n\
 \x20 for (const t of points) {\n\
 \x20   const end = endAt.get(t.node), isHere = run[k] === t.node ? 'here' : '';\n\
-\x20   if (end === undefined) { parts.push(`<g data-node=\"${t.node}\"><title>a choice of ${nodes[t.node].k.length}</title><path d=\"M${X(t)} ${Y(t) - 8}l8 8l-8 8l-8 -8z\" class=\"dia ${isHere}\"/></g>`); continue; }\n\
+\x20   if (end === undefined) { parts.push(`<g data-node=\"${t.node}\" role=\"button\" tabindex=\"0\"><title>a choice of ${nodes[t.node].k.length}</title><path d=\"M${X(t)} ${Y(t) - 8}l8 8l-8 8l-8 -8z\" class=\"dia ${isHere}\"/></g>`); continue; }\n\
 \x20   const outcome = ends[end].outcome, kind = covered ? '' : kindOf(outcome), isOn = end === endOf();\n\
 \x20   const disc = kind === 'bad' ? `<rect x=\"${X(t) - 8}\" y=\"${Y(t) - 8}\" width=\"16\" height=\"16\" rx=\"2\" class=\"bad\"/>` : `<circle cx=\"${X(t)}\" cy=\"${Y(t)}\" r=\"8.5\" class=\"${kind}\"/>`;\n\
-\x20   parts.push(`<g data-end=\"${end}\" style=\"cursor:pointer\"><title>run ${end + 1}</title>${disc}<text x=\"${X(t)}\" y=\"${Y(t) + 4.5}\" class=\"mid bold\" style=\"fill:var(--paper)\">${covered ? '?' : SIGN[wordOf(outcome)]}</text>${svgText(X(t) + 15, Y(t) + 4.5, esc(label(end)), isOn ? 'bold' : '')}</g>`);\n\
+\x20   parts.push(`<g data-end=\"${end}\" role=\"button\" tabindex=\"0\" style=\"cursor:pointer\"><title>run ${end + 1}${covered ? '' : `: ${outcome}`}</title>${disc}<text x=\"${X(t)}\" y=\"${Y(t) + 4.5}\" class=\"mid bold\" style=\"fill:var(--paper)\">${covered ? '?' : SIGN[wordOf(outcome)]}</text>${svgText(X(t) + 15, Y(t) + 4.5, esc(label(end)), isOn ? 'bold' : '')}</g>`);\n\
 \x20 }\n";
 
 /// What stands after the data: part 8 of 8.
 pub const TAIL_7: &str = "\
-\x20 el('tree').innerHTML = `<svg width=\"${(X({ deep }) + tail) * unit}\" height=\"${(rows * 23 + 8) * unit}\" viewBox=\"0 0 ${X({ deep }) + tail} ${rows * 23 + 8}\" role=\"img\"><title>Runs by their choices: ${ends.length}</title>${parts.join('')}</svg>` + (D.more ? '<p class=\"soft\" style=\"font-size:.85rem;padding:0 .7rem .3rem\">there are more runs than these</p>' : '');\n\
+\x20 el('tree').innerHTML = `<svg width=\"${(X({ deep }) + tail) * unit}\" height=\"${(rows * 23 + 8) * unit}\" viewBox=\"0 0 ${X({ deep }) + tail} ${rows * 23 + 8}\" role=\"group\"><title>Runs by their choices: ${ends.length}</title>${parts.join('')}</svg>` + (D.more ? '<p class=\"soft\" style=\"font-size:.85rem;padding:0 .7rem .3rem\">there are more runs than these</p>' : '');\n\
 \x20 const mine = points.find(t => endAt.get(t.node) === endOf()), box = el('tree'), y = Y(mine) * unit;\n\
 \x20 if (y < box.scrollTop || y > box.scrollTop + box.clientHeight - 15) box.scrollTop = y - box.clientHeight / 2;\n\
+\x20 box.scrollLeft = X(points.find(t => on.has(t.node) && run.indexOf(t.node) >= k)) * unit - box.clientWidth / 2;\n\
 }\n\
 function marks() {\n\
 \x20 const found = covered ? null : deciding(), at = (d, kind, text, title) => `<span class=\"${kind}\" data-step=\"${d}\" style=\"left:${100 * d / Math.max(1, last())}%\" title=\"${title}\">${text}</span>`, outcome = ends[endOf()].outcome;\n\
+\x20 el('decides').disabled = !found;\n\
 \x20 el('marks').innerHTML = choices().filter(d => !found || d !== found[0]).map(d => at(d, 'choice', '\\u25c6', 'a choice')).join('') + (found ? at(found[0], 'warn', '<b>\\u25bc</b>', 'the step that decides') : '') + at(last(), covered ? '' : kindOf(outcome), covered ? '?' : SIGN[wordOf(outcome)], 'the end');\n\
 }\n\
 \n\
 // ---- keys, clicks, the address\n\
-const MOVES = { start: () => 0, back: () => k - 1, on: () => k + 1, end: () => last() };\n\
 const KEYS = {\n\
 \x20 ArrowRight: () => go(k + 1), ArrowLeft: () => go(k - 1), Home: () => go(0), End: () => go(last()),\n\
 \x20 c: () => go(choices().find(d => d > k) ?? last()), u: () => go(choices().reverse().find(d => d < k) ?? 0),\n\
 \x20 b: () => { const found = covered ? null : deciding(); if (found) go(found[0]); },\n\
+\x20 m: () => goNext(fact => fact.kind === 'match'), r: () => goNext(fact => isOf(fact, k ? facts[k].rank : 0)),\n\
 \x20 h: () => { covered = D.hide && !covered; title(); go(k); },\n\
 };\n\
 function pressed(event) {\n\
 \x20 if (event.ctrlKey || event.metaKey || event.altKey) return;\n\
 \x20 const key = event.key.length > 1 ? event.key : event.key.toLowerCase();\n\
-\x20 if (/^[1-9]$/.test(key)) take(key - 1); else if (KEYS[key]) KEYS[key](); else return;\n\
+\x20 if (/^[1-9]$/.test(key)) take(key - 1); else if (KEYS[key]) KEYS[key](); else if (/^(Enter| )$/.test(key) && event.target.closest('g[role]')) clicked(event); else return;\n\
 \x20 event.preventDefault();\n\
 }\n\
 function clicked(event) {\n\
 \x20 const of = event.target.closest('[data-go], [data-take], [data-end], [data-node], [data-step]'), data = of ? of.dataset : {};\n\
-\x20 if (data.go) go(MOVES[data.go]());\n\
+\x20 if (data.go) KEYS[data.go]();\n\
 \x20 if (data.take) take(+data.take);\n\
-\x20 if (data.step) go(+data.step);\n\
+\x20 const moment = of ? data.step : momentAt(event);\n\
+\x20 if (moment !== undefined) go(+moment);\n\
 \x20 if (data.end) choose(+data.end, Infinity);\n\
 \x20 if (data.node) choose(run.includes(+data.node) ? endOf() : under[+data.node][0], pathTo(+data.node).length - 1);\n\
 }\n\
@@ -567,7 +607,8 @@ function title() {\n\
 \x20 document.title = `${D.name}: a run of ${N} ranks, step by step`;\n\
 \x20 el('about').textContent = `${N} rank${N > 1 ? 's' : ''}, ${D.mode}${D.note ? `. ${D.note}` : ''}`;\n\
 \x20 el('verdict').textContent = covered ? '' : D.said.join('; ');\n\
-\x20 el('uncover').innerHTML = D.hide ? ` &ensp; h ${covered ? 'shows' : 'hides'} ends` : '';\n\
+\x20 el('uncover').innerHTML = `${covered ? 'show' : 'cover'} ends <kbd>h</kbd>`;\n\
+\x20 el('uncover').hidden = !D.hide;\n\
 \x20 el('treepane').hidden = ends.length < 2 && !nodes.some((_, i) => isChoice(i));\n\
 }\n\
 function begin() {\n\
@@ -579,8 +620,7 @@ function begin() {\n\
 \x20 el('lanes').addEventListener('scroll', () => requestAnimationFrame(lanes));\n\
 \x20 addEventListener('hashchange', come);\n\
 \x20 addEventListener('resize', () => { layout(); go(k); });\n\
-\x20 addEventListener('beforeprint', () => { printing = true; lanes(); });\n\
-\x20 addEventListener('afterprint', () => { printing = false; lanes(); });\n\
+\x20 for (const when of ['before', 'after']) addEventListener(`${when}print`, () => { printing = when === 'before'; lanes(); });\n\
 }\n\
 if (D) begin();\n\
 </script>\n\

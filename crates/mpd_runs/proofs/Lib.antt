@@ -16,4 +16,3 @@ pub mod KeepLemmas
 pub mod DrawLemmas
 pub mod SampleLemmas
 pub mod UntilLemmas
-pub mod ListingLemmas

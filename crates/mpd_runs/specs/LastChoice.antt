@@ -1,5 +1,5 @@
 -- The last choice that was made, among two candidates or more, and the last place at which a run would have stopped.
-use Rattle.std.specs.Prelude.{ℕ, zero, suc, Bool, false, ◌||◌, nat_lt, if◌then◌else◌, Option, Some, None, is_some, codes, List, length}
+use Rattle.std.specs.Prelude.{ℕ, zero, suc, Bool, false, ◌||◌, nat_lt, if◌then◌else◌, Option, Some, None, is_some, List, length}
 use Rattle.mpd_model.specs.declared.breakpoint.Breakpoint.{Breakpoint}
 use Rattle.mpd_model.specs.declared.decision.Decision.{Decision}
 use Rattle.mpd_model.specs.declared.decision.Decision.TheVariants.{Forced, Choice, Leaf}
@@ -7,7 +7,6 @@ use Rattle.mpd_model.specs.steps.World.{World}
 use Rattle.mpd_model.specs.runs.Decisions.{decision}
 use Rattle.mpd_model.specs.runs.Trail.{Trail}
 use Rattle.mpd_model.specs.runs.Running.{world_at, hit_at}
-use Rattle.mpd_model.specs.texts.Texts.{line}
 
 -- whether somebody has to choose: a single candidate is no choice
 abbrev pub is_choice : Decision → Bool
@@ -51,6 +50,3 @@ last_stop places t = greatest_below (stops_at places t) t.depth
 -- whether one would stop here, given the breakpoint that the last step hits
 abbrev pub stops_by : Option ℕ → Decision → Bool
 stops_by hit d = is_some hit || is_choice d
-
-abbrev pub no_choice_line : List ℕ
-no_choice_line = line (codes "refused: no choice was made before")

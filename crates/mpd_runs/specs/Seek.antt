@@ -1,13 +1,11 @@
 -- The first run that ends in one way, the run of a number, and how these lie ahead of a trail. Choices are those of the wide walk.
-use Rattle.std.specs.Prelude.{◌≡◌, ◌≤◌, ◌<◌, ℕ, suc, ◌-◌, ◌==◌, Bool, true, false, ◌&&◌, is_none, if◌then◌else◌, List, ◌++◌, length, take, slice_get, Option, Some, None, codes}
+use Rattle.std.specs.Prelude.{◌≡◌, ◌≤◌, ◌<◌, ℕ, suc, ◌-◌, Bool, true, false, ◌&&◌, is_none, if◌then◌else◌, List, ◌++◌, length, take, slice_get, Option, Some, None}
 use Rattle.std.specs.Option.{option_map}
-use Rattle.std.specs.Fmt.{decimal}
 use Rattle.mpd_model.specs.declared.step.Step.{Step}
 use Rattle.mpd_model.specs.steps.World.{World, start}
 use Rattle.mpd_model.specs.steps.Next.{fold}
 use Rattle.mpd_model.specs.steps.Outcomes.{outcome}
 use Rattle.mpd_model.specs.runs.Trail.{Trail, done_steps, IsRun}
-use Rattle.mpd_model.specs.texts.Texts.{line}
 use Rattle.mpd_policy.specs.Wide.{wide_decision}
 use Rattle.mpd_policy.specs.declared.ending.Ending.{Ending}
 use Rattle.mpd_policy.specs.declared.ending.Ending.TheVariants.{Ended, Cut}
@@ -33,7 +31,7 @@ use Rattle.mpd_runs.specs.declared.way.Way.{Way}
 use Rattle.mpd_runs.specs.declared.way.Way.TheVariants as way
 use Rattle.mpd_runs.specs.Ways.{first_in}
 use Rattle.mpd_runs.specs.Counts.{counts_of}
-use Rattle.mpd_runs.specs.Runs.{fuel_at, all_runs, first_runs, are_more, is_number, none_line, ending_name, ending_places}
+use Rattle.mpd_runs.specs.Runs.{fuel_at, all_runs, first_runs, are_more, is_number}
 
 -- ---- the first run that ends so
 
@@ -59,10 +57,6 @@ more_in Listed fuel w = are_more RUNS_MAX fuel w
 
 abbrev pub counts_in : Scope → ℕ → World → WayCounts
 counts_in k fuel w = counts_of (runs_in k fuel w) (more_in k fuel w)
-
--- what is told where there is none
-abbrev pub nothing_line : Scope → Way → Trail → World → List ℕ
-nothing_line k x t w = none_line x (counts_in k (fuel_at t.depth) w)
 
 -- ---- from the start of the script
 
@@ -142,20 +136,3 @@ pub record StatesTell (x : Way) (before : List Step) (fuel : ℕ) (w : World) (b
   pub first : (r : WholeRun) → b.found ≡ Some r → found_in WideWalk x before fuel w ≡ Some r
   pub all : b.found ≡ None → b.counts.more ≡ false → (found_in WideWalk x before fuel w ≡ None) × (b.counts ≡ counts_in WideWalk fuel w)
   pub stopped : b.found ≡ None → b.counts.more ≡ true → (b.states ≡ STATES_VISITED) × TooMany x fuel w
-
--- ---- what is told
-
-abbrev pub count_words : ℕ → List ℕ
-count_words n = if n == 1 then codes "1 step" else decimal n ++ codes " steps"
-
--- `deadlock is`, or of the run of a number `run 3, deadlock, is`
-abbrev pub ahead_words : Option ℕ → Ending → List ℕ
-ahead_words None e = ending_name e ++ codes " is "
-ahead_words (Some n) e = codes "run " ++ decimal n ++ codes ", " ++ ending_name e ++ codes ", is "
-
--- `deadlock is 12 steps ahead: rank 0 at line 9, rank 2 at line 13`, or `run 3, done, is 1 step ahead`, given the line of each statement
-abbrev pub ahead_line : List ℕ → Option ℕ → Ending → ℕ → List ℕ
-ahead_line lines number e ahead = line (ahead_words number e ++ count_words ahead ++ codes " ahead" ++ ending_places lines e)
-
-abbrev pub no_run_line : List ℕ
-no_run_line = line (codes "refused: there is no such run")

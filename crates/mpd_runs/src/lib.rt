@@ -34,7 +34,8 @@ pub use listing::{FUEL, push_none, push_runs, sees_all};
 pub use read::{ReadFault, steps_of};
 pub use sampler::sample;
 pub use search::{
-    Scope, Search, Sought, WholeRun, numbered_run, push_ahead, push_count, push_no_run, seek,
+    Scope, Search, Sought, WholeRun, copy_ending, numbered_run, push_ahead, push_count,
+    push_no_run, seek,
 };
 pub use states::{STATES_KEPT, STATES_VISITED};
 pub use way::{WAYS, Way};

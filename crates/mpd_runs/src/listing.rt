@@ -1,11 +1,10 @@
 //! The runs from a debugger's state, along the wide walk, which takes two steps that do not
-//! conflict in one order alone; and their text.
+//! conflict in one order alone; and what is said of them (docs/CONSOLE.md, "Looking ahead").
 
-ghost use Rattle.std.specs.Prelude.{◌≡◌, ◌≤◌, ◌<◌, ◌+◌, ◌++◌, true, false, IfOk, OnOk, length, take, drop, string_bytes};
+ghost use Rattle.std.specs.Prelude.{◌≡◌, ◌≤◌, ◌+◌, true, IfOk, length};
 ghost use Rattle.std.specs.List.{AllByRecursion};
 ghost use Rattle.mpd_model.specs.runs.Trail.{done_steps};
 ghost use Rattle.mpd_trail.specs.DebuggerViews.{AsFound, standing_of};
-ghost use Rattle.mpd_model.specs.texts.Texts.{spaced};
 ghost use Rattle.mpd_explore.specs.Report.{ended_by, left_out};
 ghost use Rattle.mpd_explore.specs.Witness.{HasWitness};
 ghost use Rattle.mpd_policy.specs.Wide.{wide_decision};
@@ -86,12 +85,10 @@ pub(crate) fn is_number(runs: usize) -> bool
     !(runs == 0 || runs > RUNS_MAX)
 }
 
-// ---- text
+// ---- what is said of them
 
 /// Adds the numbers of candidates, from 1.
-fn push_choices(out: &mut String, choices: &[usize]) -> Result<(), AllocError>
-    ensures { OnOk result (string_bytes out.new ≡ string_bytes out.old ++ spaced spec.from_zero choices.now) }
-{
+fn push_choices(out: &mut String, choices: &[usize]) -> Result<(), AllocError> {
     for choice in choices {
         let number = *choice as u128 + 1;
         write!(out, " {number}")?;
@@ -99,47 +96,22 @@ fn push_choices(out: &mut String, choices: &[usize]) -> Result<(), AllocError>
     Ok(())
 }
 
-/// The choices of a run that are told, and those that are not.
-#[tactic(auto, using(crate::proofs::ListingLemmas::telling))]
-fn told_and_untold(choices: &[usize]) -> (&[usize], &[usize])
-    ensures told { result.0.now ≡ take CHOICES_TOLD choices.now }
-    ensures untold { result.1.now ≡ drop CHOICES_TOLD choices.now }
-{
-    if choices.len() < CHOICES_TOLD {
-        choices.split_at(choices.len())
-    } else {
-        choices.split_at(CHOICES_TOLD)
-    }
-}
-
-/// Adds how many choices are not told, if there are any.
-fn push_untold(out: &mut String, untold: &[usize]) -> Result<(), AllocError>
-    ensures { OnOk result (string_bytes out.new ≡ string_bytes out.old ++ spec.untold_words untold.now) }
-{
-    if untold.is_empty() {
-        return Ok(());
-    }
-    let count = untold.len();
-    write!(out, " .. {count} more")
-}
-
 /// Adds which candidates are taken: the first of them, and how many follow.
-fn push_choices_words(out: &mut String, choices: &[usize]) -> Result<(), AllocError>
-    ensures { OnOk result (string_bytes out.new ≡ string_bytes out.old ++ spec.choices_words choices.now) }
-{
+fn push_choices_words(out: &mut String, choices: &[usize]) -> Result<(), AllocError> {
     if choices.is_empty() {
         return out.push_str("no choice");
     }
-    let (told, untold) = told_and_untold(choices);
     out.push_str("choices")?;
+    if choices.len() <= CHOICES_TOLD {
+        return push_choices(out, choices);
+    }
+    let (told, untold) = choices.split_at(CHOICES_TOLD);
     push_choices(out, told)?;
-    push_untold(out, untold)
+    write!(out, " .. {} more", untold.len())
 }
 
 /// How a run ends, in a word.
-pub(crate) fn ending_name(ending: &Ending) -> &'static str
-    ensures { result.now ≡ spec.ending_name ending.now }
-{
+pub(crate) fn ending_name(ending: &Ending) -> &'static str {
     match ending {
         Ending::Cut => "cut",
         Ending::Ended(outcome) => end_name(outcome),
@@ -151,21 +123,11 @@ pub(crate) fn push_ending_places(
     out: &mut String,
     lines: &[usize],
     ending: &Ending,
-) -> Result<(), AllocError>
-    ensures { OnOk result (string_bytes out.new ≡ string_bytes out.old ++ spec.ending_places lines.now ending.now) }
-{
+) -> Result<(), AllocError> {
     match ending {
         Ending::Cut => Ok(()),
         Ending::Ended(outcome) => push_end_places(out, lines, outcome),
     }
-}
-
-/// Adds how a run ends, and where.
-fn push_ending(out: &mut String, lines: &[usize], ending: &Ending) -> Result<(), AllocError>
-    ensures { OnOk result (string_bytes out.new ≡ string_bytes out.old ++ spec.ending_words lines.now ending.now) }
-{
-    out.push_str(ending_name(ending))?;
-    push_ending_places(out, lines, ending)
 }
 
 /// Adds the line of a run, after `place` others.
@@ -174,107 +136,47 @@ fn push_leaf(
     lines: &[usize],
     place: usize,
     leaf: &SearchLeaf,
-) -> Result<(), AllocError>
-    requires { place < 9223372036854775808 }
-    ensures { OnOk result (string_bytes out.new ≡ string_bytes out.old ++ spec.leaf_line lines.now place leaf.now) }
-{
-    let number = place + 1;
+) -> Result<(), AllocError> {
+    let number = place as u128 + 1;
     write!(out, "{number} ")?;
     push_choices_words(out, &leaf.choices.items)?;
-    out.push_str(": ")?;
-    push_ending(out, lines, &leaf.ending)?;
+    write!(out, ": {}", ending_name(&leaf.ending))?;
+    push_ending_places(out, lines, &leaf.ending)?;
     out.push('\n')
 }
 
-/// Adds the lines of runs, numbered from 1.
-fn push_leaves(out: &mut String, lines: &[usize], leaves: &[SearchLeaf]) -> Result<(), AllocError>
-    ensures { OnOk result (string_bytes out.new ≡ string_bytes out.old ++ spec.leaf_lines lines.now 0 leaves.now) }
-{
-    let mut place = 0;
-    for leaf in leaves {
-        push_leaf(out, lines, place, leaf)?;
-        place += 1;
+/// Adds how many runs end in each way in which any does.
+fn push_tally(out: &mut String, counts: WayCounts) -> Result<(), AllocError> {
+    let mut before = " (";
+    for way in WAYS {
+        let count = counts.of(way);
+        if !is_count(count, 0) {
+            out.push_str(before)?;
+            push_count(out, count)?;
+            write!(out, " {}", way.name())?;
+            before = ", ";
+        }
     }
     Ok(())
 }
 
-/// What stands before a way that is told.
-fn separator(is_first: bool) -> &'static str
-    ensures { result.now ≡ spec.separator is_first }
-{
-    if is_first { " (" } else { ", " }
-}
-
-/// Adds how many runs end in a way, if any does.
-fn push_way(out: &mut String, is_first: bool, count: Count, way: Way) -> Result<(), AllocError>
-    ensures { OnOk result (string_bytes out.new ≡ string_bytes out.old ++ spec.way_words is_first count way) }
-{
-    if is_count(count, 0) {
-        return Ok(());
-    }
-    out.push_str(separator(is_first))?;
-    push_count(out, count)?;
-    out.push_str(" ")?;
-    out.push_str(way.name())
-}
-
-/// Whether the next way is still the first that is listed, after one in which this many runs end.
-fn still_first(is_first: bool, count: Count) -> bool
-    ensures { result ≡ spec.still_first is_first count }
-{
-    if is_count(count, 0) { is_first } else { false }
-}
-
-/// Adds how many runs end in each of some ways.
-fn push_tally(out: &mut String, counts: WayCounts, ways: &[Way]) -> Result<(), AllocError>
-    ensures { OnOk result (string_bytes out.new ≡ string_bytes out.old ++ spec.tally true counts ways.now) }
-{
-    let mut is_first = true;
-    for way in ways {
-        let count = counts.of(*way);
-        push_way(out, is_first, count, *way)?;
-        is_first = still_first(is_first, count);
-    }
-    Ok(())
-}
-
-/// Adds how many runs there are.
-fn push_count_of_runs(out: &mut String, count: Count) -> Result<(), AllocError>
-    ensures { OnOk result (string_bytes out.new ≡ string_bytes out.old ++ spec.runs_words count) }
-{
-    if is_count(count, 1) {
-        return out.push_str("1 run");
-    }
-    push_count(out, count)?;
-    out.push_str(" runs")
-}
-
-/// Whether there are more, in words.
-fn more_words(more: bool) -> &'static str
-    ensures { result.now ≡ spec.more_words more }
-{
-    if more {
-        ", and there are more"
+/// Adds the last line: how many runs there are, whether there are more, and how many end in each
+/// way.
+fn push_total(out: &mut String, counts: WayCounts) -> Result<(), AllocError> {
+    push_count(out, counts.total)?;
+    let unit = if is_count(counts.total, 1) {
+        "run"
     } else {
-        ", and no more"
-    }
-}
-
-/// Adds the last line: how many runs there are, whether there are more, and how many end in each way.
-fn push_total(out: &mut String, counts: WayCounts) -> Result<(), AllocError>
-    ensures { OnOk result (string_bytes out.new ≡ string_bytes out.old ++ spec.total_line counts) }
-{
-    push_count_of_runs(out, counts.total)?;
-    out.push_str(more_words(counts.more))?;
-    push_tally(out, counts, &WAYS)?;
+        "runs"
+    };
+    let more = if counts.more {
+        "there are more"
+    } else {
+        "no more"
+    };
+    write!(out, " {unit}, and {more}")?;
+    push_tally(out, counts)?;
     out.push_str(")\n")
-}
-
-/// Adds which runs are listed.
-fn push_orders(out: &mut String) -> Result<(), AllocError>
-    ensures { OnOk result (string_bytes out.new ≡ string_bytes out.old ++ spec.orders_line) }
-{
-    out.push_str("one run for all orders of independent steps; diagnose counts each order\n")
 }
 
 /// Adds the first `runs` runs from the debugger's state, or which numbers may be asked for. `Err`
@@ -284,16 +186,17 @@ pub fn push_runs(
     debugger: &Debugger<'_>,
     out: &mut String,
     runs: usize,
-) -> Result<(), AllocError>
-    ensures { OnOk result (string_bytes out.new ≡ string_bytes out.old ++ spec.check_text debugger.now.trail debugger.now.world runs) }
-{
+) -> Result<(), AllocError> {
     if !is_number(runs) {
         return out.push_str("refused: 1 to 65536 runs can be asked for\n");
     }
     let report = runs_from(alloc, debugger, runs)?;
-    push_leaves(out, debugger.core().code().lines(), &report.leaves)?;
+    let lines = debugger.core().code().lines();
+    for (place, leaf) in report.leaves.iter().enumerate() {
+        push_leaf(out, lines, place, leaf)?;
+    }
     push_total(out, counts_of(&report.leaves, report.more))?;
-    push_orders(out)
+    out.push_str("one run for all orders of independent steps; diagnose counts each order\n")
 }
 
 /// Whether some runs have all ways to end: there are no more, and none is cut.
@@ -303,23 +206,9 @@ pub fn sees_all(counts: WayCounts) -> bool
     !counts.more && is_count(counts.cut, 0)
 }
 
-/// What is told between a way and the runs that were looked at, by whether these have all ways to end.
-fn found_words(sees_all: bool) -> &'static str
-    ensures { result.now ≡ spec.found_words sees_all }
-{
-    if sees_all {
-        " from here: "
-    } else {
-        " found from here: "
-    }
-}
-
 /// Adds that no run ends in a way, and what was looked at. `Err` means that memory was refused.
-pub fn push_none(out: &mut String, way: Way, counts: WayCounts) -> Result<(), AllocError>
-    ensures { OnOk result (string_bytes out.new ≡ string_bytes out.old ++ spec.none_line way counts) }
-{
-    out.push_str("no ")?;
-    out.push_str(way.name())?;
-    out.push_str(found_words(sees_all(counts)))?;
+pub fn push_none(out: &mut String, way: Way, counts: WayCounts) -> Result<(), AllocError> {
+    let found = if sees_all(counts) { "" } else { " found" };
+    write!(out, "no {}{found} from here: ", way.name())?;
     push_total(out, counts)
 }

@@ -2,7 +2,7 @@
 //! the script. Both are of the wide walk, which takes two steps that do not conflict in one order
 //! alone.
 
-ghost use Rattle.std.specs.Prelude.{◌≡◌, ◌≤◌, ◌<◌, ◌+◌, ◌++◌, IfOk, IfSome, OnOk, length, slice_get, string_bytes};
+ghost use Rattle.std.specs.Prelude.{◌≡◌, ◌≤◌, ◌+◌, ◌++◌, IfOk, IfSome, length, slice_get};
 ghost use Rattle.std.specs.List.{AllByRecursion};
 ghost use Rattle.std.specs.Option.{option_map};
 ghost use Rattle.mpd_model.specs.runs.Trail.{done_steps};
@@ -82,8 +82,8 @@ fn copy_outcome(alloc: Global, outcome: &Outcome) -> Result<Outcome, AllocError>
     }
 }
 
-/// A copy of how a run ends.
-fn copy_ending(alloc: Global, ending: &Ending) -> Result<Ending, AllocError>
+/// A copy of how a run ends. `Err` means that memory was refused.
+pub fn copy_ending(alloc: Global, ending: &Ending) -> Result<Ending, AllocError>
     ensures { IfOk result (λ e. e ≡ ending.now) }
 {
     match ending {
@@ -333,31 +333,14 @@ pub fn numbered_run(
     Ok(found)
 }
 
-// ---- text
+// ---- what is said of them
 
 /// Adds a number of steps, in words. `Err` means that memory was refused.
-pub fn push_count(out: &mut String, count: usize) -> Result<(), AllocError>
-    ensures { OnOk result (string_bytes out.new ≡ string_bytes out.old ++ spec.count_words count) }
-{
+pub fn push_count(out: &mut String, count: usize) -> Result<(), AllocError> {
     if count == 1 {
         return out.push_str("1 step");
     }
     write!(out, "{count} steps")
-}
-
-/// Adds how a run ends; of the run of a number this number, too.
-fn push_ahead_words(
-    out: &mut String,
-    number: Option<usize>,
-    ending: &Ending,
-) -> Result<(), AllocError>
-    ensures { OnOk result (string_bytes out.new ≡ string_bytes out.old ++ spec.ahead_words number ending.now) }
-{
-    let name = ending_name(ending);
-    match number {
-        None => write!(out, "{name} is "),
-        Some(number) => write!(out, "run {number}, {name}, is "),
-    }
 }
 
 /// Adds how the run ends that lies ahead, by how many steps, and where, given the line of each
@@ -368,10 +351,12 @@ pub fn push_ahead(
     number: Option<usize>,
     ending: &Ending,
     ahead: usize,
-) -> Result<(), AllocError>
-    ensures { OnOk result (string_bytes out.new ≡ string_bytes out.old ++ spec.ahead_line lines.now number ending.now ahead) }
-{
-    push_ahead_words(out, number, ending)?;
+) -> Result<(), AllocError> {
+    let name = ending_name(ending);
+    match number {
+        None => write!(out, "{name} is ")?,
+        Some(number) => write!(out, "run {number}, {name}, is ")?,
+    }
     push_count(out, ahead)?;
     out.push_str(" ahead")?;
     push_ending_places(out, lines, ending)?;
@@ -379,8 +364,6 @@ pub fn push_ahead(
 }
 
 /// Adds that there is no run of a number. `Err` means that memory was refused.
-pub fn push_no_run(out: &mut String) -> Result<(), AllocError>
-    ensures { OnOk result (string_bytes out.new ≡ string_bytes out.old ++ spec.no_run_line) }
-{
+pub fn push_no_run(out: &mut String) -> Result<(), AllocError> {
     out.push_str("refused: there is no such run\n")
 }

@@ -28,9 +28,7 @@ pub const WAYS: [Way; 5] = [
 
 impl Way {
     /// The word: `done`, `leftovers`, `deadlock`, `trap` or `cut`.
-    pub fn name(self) -> &'static str
-        ensures { result.now ≡ spec.way_name self }
-    {
+    pub fn name(self) -> &'static str {
         match self {
             Way::Done => "done",
             Way::Leftovers => "leftovers",

@@ -21,10 +21,10 @@ lists_in (answer.Hit hit) = false
 lists_in (answer.Explored leaves more) = true
 lists_in (answer.Script ranks mode vars handles lines) = true
 lists_in (answer.Where ranks lines ready held) = true
-lists_in (answer.Decided kind steps told outcome) = true
+lists_in (answer.Decided kind steps decls outcome) = true
 lists_in (answer.Steps d steps undone) = true
 lists_in (answer.Lines lines partners) = true
-lists_in (answer.Explained lines) = true
+lists_in (answer.Explained told) = true
 
 abbrev pub holds_list : Reply → Bool
 holds_list (reply.Refused r) = false

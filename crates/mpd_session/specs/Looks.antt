@@ -1,5 +1,5 @@
--- What looks at the script, at all ranks and at steps come to: names, lines and words that a client would have to work out.
-use Rattle.std.specs.Prelude.{ℕ, ◌+◌, ◌-◌, ◌==◌, Bool, true, false, ◌&&◌, nat_le, nat_lt, if◌then◌else◌, List, [], ◌∷◌, ◌++◌, map, length, take, drop, Option, Some, None}
+-- What looks at the script, at all ranks and at steps come to: names, lines and values that a client would have to work out.
+use Rattle.std.specs.Prelude.{ℕ, ◌+◌, ◌-◌, ◌==◌, Bool, true, false, ◌&&◌, nat_le, nat_lt, if◌then◌else◌, List, [], ◌∷◌, ◌++◌, map, length, take, drop, Option, Some, None, option_map}
 use Rattle.std.specs.Fmt.{decimal}
 use Rattle.std.specs.List.{flat_map, list_any, range_with_len}
 use Rattle.mpd_model.specs.declared.limits.TheConstants.{STEPS_MAX}
@@ -19,17 +19,17 @@ use Rattle.mpd_model.specs.steps.Outcomes.{outcome}
 use Rattle.mpd_model.specs.runs.Decisions.{decision}
 use Rattle.mpd_model.specs.runs.Trail.{Trail}
 use Rattle.mpd_model.specs.texts.Texts.{rank_text, step_text, outcome_text}
-use Rattle.mpd_policy.specs.declared.ending.Ending.TheVariants.{Ended}
 use Rattle.mpd_names.specs.Placed.{issue_line}
 use Rattle.mpd_names.specs.Stand.{stand}
-use Rattle.mpd_explain.specs.Candidates.{candidate_words}
-use Rattle.mpd_explain.specs.Explained.{told}
-use Rattle.mpd_explain.specs.Lost.{lost_lines}
+use Rattle.mpd_explain.specs.Steps.{placed_step_of}
+use Rattle.mpd_explain.specs.Ends.{outcome_end}
+use Rattle.mpd_explain.specs.Lost.{all_losses}
 use Rattle.mpd_session.specs.declared.request.Look.{Look}
 use Rattle.mpd_session.specs.declared.request.Look.TheVariants as look
 use Rattle.mpd_session.specs.declared.reply.Answer.TheVariants as answer
 use Rattle.mpd_session.specs.declared.reply.Coming.{Coming}
 use Rattle.mpd_session.specs.declared.reply.Coming.TheVariants as coming
+use Rattle.mpd_session.specs.declared.reply.Explained.{Explained}
 use Rattle.mpd_session.specs.declared.reply.Holding.{Holding}
 use Rattle.mpd_session.specs.declared.reply.Refusal.TheVariants.{BadNumber}
 use Rattle.mpd_session.specs.declared.effect.Effect.{Effect}
@@ -114,9 +114,9 @@ steps_effect t from count =
     then Told (answer.Steps t.depth (map step_text (take count (drop from t.steps))) (length t.steps - t.depth))
     else Refused BadNumber
 
--- what comes next: one of these steps, each with what is told of it, its receive and its waitany included
+-- what comes next: one of these steps, each with what it is about, and what the script declares
 abbrev pub coming_effect : Program → World → Coming → List Step → Effect
-coming_effect s w kind steps = Told (answer.Decided kind (map step_text steps) (map (candidate_words s w false) steps) None)
+coming_effect s w kind steps = Told (answer.Decided kind (map (placed_step_of s w) steps) s.decls None)
 
 -- or none: the run has ended so
 abbrev pub ended_effect : Outcome → Effect
@@ -129,23 +129,13 @@ decision_effect s w (Leaf o) = ended_effect o
 
 -- ---- ends
 
--- a byte before the first of these lines, if there is one
-abbrev pub before_line : ℕ → List (List ℕ) → List (List ℕ)
-before_line b [] = []
-before_line b (l ∷ ls) = (b ∷ l) ∷ ls
+-- how a run has ended, the requests that are lost, and what the script declares
+abbrev pub explained_of : Program → World → Outcome → Explained
+explained_of s w o = record { end = outcome_end s w o; lost = all_losses s w; decls = s.decls }
 
--- the lines of a text that a line feed ends, without it
-abbrev pub feed_lines : List ℕ → List (List ℕ)
-feed_lines [] = []
-feed_lines (b ∷ text) = if b == 10 then [] ∷ feed_lines text else before_line b (feed_lines text)
-
--- what is told of how a run has ended, and the requests that are lost; nothing where it has not ended
-abbrev pub end_lines : Program → World → Option Outcome → List (List ℕ)
-end_lines s w None = []
-end_lines s w (Some o) = feed_lines (told s w (Ended o) ++ lost_lines s w)
-
+-- that, where it has ended
 abbrev pub explain_effect : Program → World → Effect
-explain_effect s w = Told (answer.Explained (end_lines s w (outcome w)))
+explain_effect s w = Told (answer.Explained (option_map (explained_of s w) (outcome w)))
 
 -- ---- all of these
 

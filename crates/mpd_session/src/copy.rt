@@ -5,18 +5,15 @@ ghost use Rattle.mpd_session.specs.declared.reply.Answer.TheVariants as answer;
 ghost use Rattle.mpd_session.specs.Copies.{holds_list, lists_in};
 
 use crate::reply::{
-    Answer, Coming, HandleList, Holding, HoldingList, IntegerList, NumberList, PartnerList, Reply,
-    Text, TextList,
+    Answer, Coming, DeclList, Explained, HandleList, Holding, HoldingList, IntegerList, NumberList,
+    PartnerList, Reply, Text, TextList,
 };
-use mpd_model::{CallId, Mode};
+use mpd_explain::{PlacedStepList, copy_end, copy_losses, copy_steps};
+use mpd_model::{CallId, Decl, Mode};
 use std::alloc::{AllocError, Global};
 
 /// Adds a copy of a text.
-pub(crate) fn push_copy(
-    alloc: Global,
-    copies: &mut Vec<String>,
-    text: &str,
-) -> Result<(), AllocError>
+fn push_copy(alloc: Global, copies: &mut Vec<String>, text: &str) -> Result<(), AllocError>
     ensures { OnOk result (map string_bytes copies.new.items ≡ map string_bytes copies.old.items ++ text.now ∷ []) }
 {
     copies.push(String::from_str(alloc, text)?)?;
@@ -246,26 +243,48 @@ fn copy_where(
     })
 }
 
+/// A declaration of its own.
+fn copy_decl(alloc: Global, decl: &Decl) -> Result<Decl, AllocError>
+    ensures { IfOk result (λ copy. copy ≡ decl.now) }
+{
+    Ok(Decl {
+        kind: decl.kind,
+        name: String::from_str(alloc, decl.name.as_str())?,
+        size: decl.size,
+    })
+}
+
+/// Declarations of their own.
+pub(crate) fn copy_decls(alloc: Global, decls: &[Decl]) -> Result<DeclList, AllocError>
+    ensures { IfOk result (λ copy. copy ≡ decls.now) }
+{
+    let mut items = Vec::new(alloc);
+    for decl in decls {
+        items.push(copy_decl(alloc, decl)?)?;
+    }
+    Ok(DeclList { items })
+}
+
 /// What comes next, of its own.
 fn copy_decided(
     alloc: Global,
     coming: Coming,
-    steps: &TextList,
-    told: &TextList,
+    steps: &PlacedStepList,
+    decls: &DeclList,
     outcome: &Option<Text>,
 ) -> Result<Answer, AllocError>
-    ensures { IfOk result (λ copy. copy ≡ answer.Decided coming steps.now told.now outcome.now) }
+    ensures { IfOk result (λ copy. copy ≡ answer.Decided coming steps.now decls.now outcome.now) }
 {
     Ok(Answer::Decided {
         coming,
-        steps: copy_texts(alloc, &steps.items)?,
-        told: copy_texts(alloc, &told.items)?,
+        steps: copy_steps(alloc, &steps.items)?,
+        decls: copy_decls(alloc, &decls.items)?,
         outcome: copy_text(alloc, outcome)?,
     })
 }
 
-/// Steps of their own.
-fn copy_steps(
+/// Steps that are taken or ahead, of their own.
+fn copy_listed(
     alloc: Global,
     depth: usize,
     steps: &TextList,
@@ -293,6 +312,27 @@ fn copy_lines(
         lines: copy_numbers(alloc, &lines.items)?,
         partners: copy_partners(alloc, &partners.items)?,
     })
+}
+
+/// How a run has ended, of its own.
+fn copy_end_of(alloc: Global, told: &Explained) -> Result<Explained, AllocError>
+    ensures { IfOk result (λ copy. copy ≡ told.now) }
+{
+    Ok(Explained {
+        end: copy_end(alloc, &told.end)?,
+        lost: copy_losses(alloc, &told.lost.items)?,
+        decls: copy_decls(alloc, &told.decls.items)?,
+    })
+}
+
+/// The same, if it has ended.
+fn copy_explained(alloc: Global, told: &Option<Explained>) -> Result<Option<Explained>, AllocError>
+    ensures { IfOk result (λ copy. copy ≡ told.now) }
+{
+    match told {
+        None => Ok(None),
+        Some(told) => Ok(Some(copy_end_of(alloc, told)?)),
+    }
 }
 
 /// An answer of its own. `Err` means that memory was refused, which happens only if the answer has
@@ -343,16 +383,16 @@ fn copy_answer(alloc: Global, answer: &Answer) -> Result<Answer, AllocError>
         Answer::Decided {
             coming,
             steps,
-            told,
+            decls,
             outcome,
-        } => copy_decided(alloc, *coming, steps, told, outcome),
+        } => copy_decided(alloc, *coming, steps, decls, outcome),
         Answer::Steps {
             depth,
             steps,
             undone,
-        } => copy_steps(alloc, *depth, steps, *undone),
+        } => copy_listed(alloc, *depth, steps, *undone),
         Answer::Lines { lines, partners } => copy_lines(alloc, lines, partners),
-        Answer::Explained(lines) => copy_texts(alloc, &lines.items).map(Answer::Explained),
+        Answer::Explained(told) => copy_explained(alloc, told).map(Answer::Explained),
     }
 }
 

@@ -1,21 +1,17 @@
 //! Looks at steps, at what comes next, and at how a run has ended.
 
-ghost use Rattle.std.specs.Prelude.{◌≡◌, ◌++◌, ◌∷◌, [], IfOk, OnOk, false, map, take, drop, length, nat_le, string_bytes};
+ghost use Rattle.std.specs.Prelude.{◌≡◌, IfOk, take, length, nat_le, option_map};
 ghost use Rattle.mpd_model.specs.runs.Decisions.{decision};
-ghost use Rattle.mpd_policy.specs.declared.ending.Ending.TheVariants.{Ended};
-ghost use Rattle.mpd_explain.specs.Candidates.{candidate_words};
-ghost use Rattle.mpd_explain.specs.Explained.{told};
-ghost use Rattle.mpd_explain.specs.Lost.{lost_lines};
 ghost use Rattle.mpd_session.specs.Looks as spec;
 
-use crate::copy::push_copy;
+use crate::copy::copy_decls;
 use crate::effect::{Effect, is_within};
-use crate::looks::{push_text, step_texts};
-use crate::reply::{Answer, Coming, Refusal, Text, TextList};
+use crate::looks::step_texts;
+use crate::reply::{Answer, Coming, DeclList, Explained, Refusal, Text};
 use mpd_core::Core;
-use mpd_explain::{push_all_lost, push_candidate, push_told};
+use mpd_explain::{LossList, PlacedStepList, all_losses, outcome_end, placed_steps};
 use mpd_model::{Decision, Outcome, STEPS_MAX, Step, print_outcome};
-use mpd_policy::{Ending, decide};
+use mpd_policy::decide;
 use mpd_trail::Debugger;
 use std::alloc::{AllocError, Global};
 
@@ -64,26 +60,6 @@ pub fn steps(
     }))
 }
 
-/// What is told of a step.
-fn step_told(alloc: Global, core: &Core<'_>, step: Step) -> Result<String, AllocError>
-    ensures { IfOk result (λ t. string_bytes t ≡ candidate_words core.now.program core.now.world false step) }
-{
-    let mut text = String::new(alloc);
-    push_candidate(core, &mut text, false, step)?;
-    Ok(text)
-}
-
-/// What is told of steps.
-fn steps_told(alloc: Global, core: &Core<'_>, steps: &[Step]) -> Result<TextList, AllocError>
-    ensures { IfOk result (λ texts. texts ≡ map (candidate_words core.now.program core.now.world false) steps.now) }
-{
-    let mut items = Vec::new(alloc);
-    for step in steps {
-        push_text(&mut items, step_told(alloc, core, *step)?)?;
-    }
-    Ok(TextList { items })
-}
-
 /// Tells that one of some steps comes next.
 fn coming(
     alloc: Global,
@@ -95,8 +71,8 @@ fn coming(
 {
     Ok(Effect::Told(Answer::Decided {
         coming,
-        steps: step_texts(alloc, steps)?,
-        told: steps_told(alloc, core, steps)?,
+        steps: placed_steps(alloc, core, steps)?,
+        decls: copy_decls(alloc, core.code().decls())?,
         outcome: None,
     }))
 }
@@ -108,10 +84,10 @@ fn ended(alloc: Global, outcome: &Outcome) -> Result<Effect, AllocError>
     let string = print_outcome(alloc, outcome)?;
     Ok(Effect::Told(Answer::Decided {
         coming: Coming::Leaf,
-        steps: TextList {
+        steps: PlacedStepList {
             items: Vec::new(alloc),
         },
-        told: TextList {
+        decls: DeclList {
             items: Vec::new(alloc),
         },
         outcome: Some(Text { string }),
@@ -137,46 +113,29 @@ pub fn decision(alloc: Global, core: &Core<'_>) -> Result<Effect, AllocError>
     decided(alloc, core, &decision)
 }
 
-/// The lines of a text that a line feed ends, without it.
-#[tactic(auto, using(crate::proofs::DecidedLemmas::cutting))]
-fn feed_lines(alloc: Global, text: &str) -> Result<TextList, AllocError>
-    ensures { IfOk result (λ texts. texts ≡ spec.feed_lines text.now) }
+/// How a run has ended with this outcome, with what is known of that.
+fn explained_of(alloc: Global, core: &Core<'_>, outcome: &Outcome) -> Result<Explained, AllocError>
+    ensures { IfOk result (λ told. told ≡ spec.explained_of core.now.program core.now.world outcome.now) }
 {
-    let mut items = Vec::new(alloc);
-    let mut rest = text;
-    while let Some((line, behind)) = rest.split_once('\n') {
-        push_copy(alloc, &mut items, line)?;
-        rest = behind;
-    }
-    Ok(TextList { items })
+    let lost = all_losses(alloc, core)?;
+    Ok(Explained {
+        end: outcome_end(alloc, core, outcome)?,
+        lost: LossList { items: lost },
+        decls: copy_decls(alloc, core.code().decls())?,
+    })
 }
 
-/// What is told of how the run has ended.
-fn told_of(alloc: Global, core: &Core<'_>, ending: &Ending) -> Result<String, AllocError>
-    ensures { IfOk result (λ t. string_bytes t ≡ told core.now.program core.now.world ending.now ++ lost_lines core.now.program core.now.world) }
-{
-    let mut text = String::new(alloc);
-    push_told(alloc, core, &mut text, ending)?;
-    push_all_lost(core, &mut text)?;
-    Ok(text)
-}
-
-/// The lines of what is told of how the run has ended, none if it has not.
-fn end_lines(
+/// The same, if it has ended.
+fn explained(
     alloc: Global,
     core: &Core<'_>,
-    outcome: Option<Outcome>,
-) -> Result<TextList, AllocError>
-    ensures { IfOk result (λ texts. texts ≡ spec.end_lines core.now.program core.now.world outcome) }
+    outcome: &Option<Outcome>,
+) -> Result<Option<Explained>, AllocError>
+    ensures { IfOk result (λ told. told ≡ option_map (spec.explained_of core.now.program core.now.world) outcome.now) }
 {
     match outcome {
-        None => Ok(TextList {
-            items: Vec::new(alloc),
-        }),
-        Some(outcome) => {
-            let text = told_of(alloc, core, &Ending::Ended(outcome))?;
-            feed_lines(alloc, text.as_str())
-        }
+        None => Ok(None),
+        Some(outcome) => Ok(Some(explained_of(alloc, core, outcome)?)),
     }
 }
 
@@ -185,5 +144,5 @@ pub fn explain(alloc: Global, core: &Core<'_>) -> Result<Effect, AllocError>
     ensures { IfOk result (λ effect. effect ≡ spec.explain_effect core.now.program core.now.world) }
 {
     let outcome = core.outcome(alloc)?;
-    Ok(Effect::Told(Answer::Explained(end_lines(alloc, core, outcome)?)))
+    Ok(Effect::Told(Answer::Explained(explained(alloc, core, &outcome)?)))
 }

@@ -22,8 +22,8 @@ pub use desk::{Desk, DeskFault};
 pub use history::{Entry, HISTORY_MAX, Log, Logged, Receipt};
 pub use opening::Opening;
 pub use reply::{
-    Answer, Coming, HandleList, Holding, HoldingList, IntegerList, NumberList, PartnerList,
-    Refusal, Reply, Text, TextList,
+    Answer, Coming, DeclList, Explained, HandleList, Holding, HoldingList, IntegerList, NumberList,
+    PartnerList, Refusal, Reply, Text, TextList,
 };
 pub use request::{Command, Look, Request};
 pub use same::{same_reply, same_request};

@@ -3,7 +3,8 @@
 ghost use Rattle.std.specs.Prelude.{◌≡◌};
 ghost use Rattle.mpd_session.specs.RefusalNumbers.{refusal_number};
 
-use mpd_model::{CallId, Mode, Step, Stop};
+use mpd_explain::{End, LossList, PlacedStepList};
+use mpd_model::{CallId, Decl, Mode, Step, Stop};
 use std::marker::Model;
 
 /// The text of how a run has ended (docs/SESSIONS.md, "Requests"); contracts see its bytes.
@@ -121,6 +122,35 @@ impl Model for HoldingList {
     ghost view = { λ l. l.items.items };
 }
 
+/// The declarations of a script, in text order; contracts see a list.
+#[derive(Drop)]
+pub struct DeclList {
+    pub items: Vec<Decl>,
+}
+
+impl Model for DeclList {
+    ghost use Rattle.std.specs.Prelude.{List};
+    ghost use Rattle.mpd_model.specs.script.Declaration.{Declared};
+    ghost use Rattle.mpd_session.specs.Holdings.{decls_code};
+
+    ghost Value = { List Declared };
+
+    ghost coded = { decls_code };
+
+    ghost view = { λ l. l.items.items };
+}
+
+/// How a run has ended, with what is known of that. Whoever tells it in words has all of it here.
+#[derive(Drop)]
+pub struct Explained {
+    /// The end.
+    pub end: End,
+    /// The requests that are lost.
+    pub lost: LossList,
+    /// The declarations of the script, whose cells the end names by their numbers.
+    pub decls: DeclList,
+}
+
 /// What comes next, without its steps.
 #[derive(Clone, Copy)]
 pub enum Coming {
@@ -224,10 +254,10 @@ pub enum Answer {
     Decided {
         /// What comes next.
         coming: Coming,
-        /// The texts of the step that is forced, or of the candidates.
-        steps: TextList,
-        /// What is told of each of them.
-        told: TextList,
+        /// The step that is forced, or the candidates, each with what it is about.
+        steps: PlacedStepList,
+        /// The declarations of the script, whose handles the steps name by their numbers; none at a leaf.
+        decls: DeclList,
         /// How the run has ended, if no step is enabled.
         outcome: Option<Text>,
     },
@@ -247,8 +277,8 @@ pub enum Answer {
         /// The call that it was matched with.
         partners: PartnerList,
     },
-    /// Of `explain`: the lines that are told of how the run has ended.
-    Explained(TextList),
+    /// Of `explain`: how the run has ended, if it has.
+    Explained(Option<Explained>),
 }
 
 /// Why a session has not carried out a request, by the numbers of docs/SESSIONS.md, "Refusals"; then nothing has changed. What is

@@ -10,11 +10,12 @@ ghost use Rattle.mpd_session.specs.declared.reply.Answer.TheVariants as answers;
 ghost use Rattle.mpd_session.specs.declared.reply.Answer.TheVariants.{Stepped, Ran, State, Vars, Explored, Script, Where, Decided, Lines};
 
 use crate::reply::{
-    Answer, Coming, HandleList, Holding, HoldingList, IntegerList, NumberList, PartnerList,
-    Refusal, Reply, Text, TextList,
+    Answer, Coming, DeclList, Explained, HandleList, Holding, HoldingList, IntegerList, NumberList,
+    PartnerList, Refusal, Reply, Text, TextList,
 };
 use crate::request::{Command, Look, Request};
-use mpd_model::{Breakpoint, CallId, Condition, Mode, Step, Stop};
+use mpd_explain::{PlacedStepList, same_end, same_losses, same_steps};
+use mpd_model::{Breakpoint, CallId, Condition, Decl, Mode, Step, Stop};
 
 /// Whether a command is to explore with these limits.
 fn is_explore(command: Command, runs: usize, fuel: usize) -> bool
@@ -456,26 +457,72 @@ fn is_where(
     }
 }
 
+/// Whether two declarations are one.
+fn same_decl(one: &Decl, other: &Decl) -> bool
+    ensures { Decides result (one.now ≡ other.now) }
+{
+    one.kind == other.kind
+        && one.size == other.size
+        && same_string(one.name.as_str(), other.name.as_str())
+}
+
+/// Whether two lists of declarations are one.
+fn same_decls(one: &[Decl], other: &[Decl]) -> bool
+    ensures { Decides result (one.now ≡ other.now) }
+{
+    if one.len() != other.len() {
+        return false;
+    }
+    for number in 0..one.len() {
+        if !same_decl(&one[number], &other[number]) {
+            return false;
+        }
+    }
+    true
+}
+
+/// Whether a run has ended alike, with all that is known of that.
+fn same_end_of(one: &Explained, other: &Explained) -> bool
+    ensures { Decides result (one.now ≡ other.now) }
+{
+    same_end(&one.end, &other.end)
+        && same_losses(&one.lost.items, &other.lost.items)
+        && same_decls(&one.decls.items, &other.decls.items)
+}
+
+/// Whether a run has ended alike, or not at all.
+fn same_explained(one: &Option<Explained>, other: &Option<Explained>) -> bool
+    ensures { Decides result (one.now ≡ other.now) }
+{
+    match one {
+        None => other.is_none(),
+        Some(told) => match other {
+            None => false,
+            Some(also) => same_end_of(told, also),
+        },
+    }
+}
+
 /// Whether an answer is that this comes next.
 fn is_decided(
     answer: &Answer,
     coming: Coming,
-    steps: &TextList,
-    told: &TextList,
+    steps: &PlacedStepList,
+    decls: &DeclList,
     outcome: &Option<Text>,
 ) -> bool
-    ensures { Decides result (Decided coming steps.now told.now outcome.now ≡ answer.now) }
+    ensures { Decides result (Decided coming steps.now decls.now outcome.now ≡ answer.now) }
 {
     match answer {
         Answer::Decided {
             coming: told_coming,
             steps: told_steps,
-            told: told_words,
+            decls: told_decls,
             outcome: told_outcome,
         } => {
             *told_coming == coming
-                && same_texts(&told_steps.items, &steps.items)
-                && same_texts(&told_words.items, &told.items)
+                && same_steps(&told_steps.items, &steps.items)
+                && same_decls(&told_decls.items, &decls.items)
                 && same_outcome(told_outcome, outcome)
         }
         _ => false,
@@ -564,17 +611,17 @@ fn same_answer(one: &Answer, other: &Answer) -> bool
         Answer::Decided {
             coming,
             steps,
-            told,
+            decls,
             outcome,
-        } => is_decided(other, *coming, steps, told, outcome),
+        } => is_decided(other, *coming, steps, decls, outcome),
         Answer::Steps {
             depth,
             steps,
             undone,
         } => is_listed(other, *depth, steps, *undone),
         Answer::Lines { lines, partners } => is_lines(other, lines, partners),
-        Answer::Explained(lines) => {
-            matches!(other, Answer::Explained(also) if same_texts(&also.items, &lines.items))
+        Answer::Explained(told) => {
+            matches!(other, Answer::Explained(also) if same_explained(also, told))
         }
     }
 }

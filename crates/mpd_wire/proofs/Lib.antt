@@ -3,3 +3,5 @@ pub mod Texts
 pub mod SayLemmas
 pub mod EndLemmas
 pub mod ListLemmas
+pub mod FeedLemmas
+pub mod WordLemmas

@@ -6,7 +6,7 @@ use Rattle.mpd_wire.specs.declared.fault.WireFault.{WireFault}
 use Rattle.mpd_wire.specs.declared.fault.WireFault.TheVariants.{LineTooLong, NotJson, BadField, UnknownCommand, Memory}
 use Rattle.mpd_session.specs.declared.reply.Reply.{Reply}
 use Rattle.mpd_wire.specs.Requests.{request_by}
-use Rattle.mpd_wire.specs.Replies.{reply_line}
+use Rattle.mpd_wire.specs.Replies.{IsReplyLine}
 use Rattle.mpd_wire.specs.Says.{memory_line, unprinted_line, full_line, fault_line, Asked, Took, Says, AddsTold, AddsAsked, AddsTook, one_more, counted}
 use Rattle.mpd_wire.proofs.Json.{too_long}
 
@@ -40,7 +40,7 @@ pub ruleset faulting = (too_long_line, not_json_line, bad_field_line, unknown_li
 
 -- ---- a reply
 
-pub printed : (r : Reply) (before after text : List ℕ) → text ≡ reply_line r → after ≡ before ++ text → AddsTold r before after
+pub printed : (r : Reply) (before after text : List ℕ) → IsReplyLine r text → after ≡ before ++ text → AddsTold r before after
 printed r before after text is said = (text, said, inl is)
 
 pub unprinted : (r : Reply) (before after : List ℕ) → after ≡ before ++ unprinted_line → AddsTold r before after

@@ -1,4 +1,5 @@
 pub mod Requests
+pub mod Words
 pub mod Replies
 pub mod FaultNumbers
 pub mod Says

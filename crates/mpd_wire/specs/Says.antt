@@ -8,7 +8,7 @@ use Rattle.mpd_session.specs.declared.request.Request.{Request}
 use Rattle.mpd_wire.specs.declared.fault.WireFault.{WireFault}
 use Rattle.mpd_wire.specs.declared.fault.WireFault.TheVariants as fault
 use Rattle.mpd_session.specs.declared.reply.Reply.{Reply}
-use Rattle.mpd_wire.specs.Replies.{members, refused, reply_line}
+use Rattle.mpd_wire.specs.Replies.{members, refused, IsReplyLine}
 
 -- the two lines that stand in the place of a reply: where memory is refused before the desk has taken the request, and after that
 abbrev pub memory_line : List ℕ
@@ -31,7 +31,7 @@ fault_line fault.Memory = memory_line
 
 -- the line of a reply, or the one that stands in its place
 abbrev pub Told : Reply → List ℕ → Type 0
-Told r text = (text ≡ reply_line r) ⊎ (text ≡ unprinted_line)
+Told r text = IsReplyLine r text ⊎ (text ≡ unprinted_line)
 
 -- what answers a request that the desk has not taken: its history is full, or memory was refused
 abbrev pub full_line : List ℕ

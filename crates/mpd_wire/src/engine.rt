@@ -2,7 +2,7 @@
 
 ghost use Rattle.std.specs.Prelude.{◌≡◌, ◌+◌, ◌≤◌, ◌<◌, ◌++◌, ℕ, List, IfOk, length, string_bytes, vec_len, vec_capacity};
 ghost use Rattle.mpd_wire.specs.Requests.{request_by, request_in};
-ghost use Rattle.mpd_wire.specs.Replies.{reply_line};
+ghost use Rattle.mpd_wire.specs.Replies.{IsReplyLine};
 ghost use Rattle.mpd_wire.specs.Says.{AddsTold, AddsAsked, AddsTook, one_more, fault_line};
 ghost use Rattle.mpd_lines.specs.FaultWords.{failed_reads, failed_writes};
 ghost use Rattle.mpd_lines.specs.Served.{Counted};
@@ -26,8 +26,9 @@ const UNPRINTED: &[u8] = b"{\"error\":\"unprinted\",\"ok\":false}\n";
 const HISTORY_FULL: &[u8] = b"{\"error\":\"history-full\",\"ok\":false}\n";
 
 /// The line of a reply. An `Err` is want of memory.
+#[tactic(auto, using(crate::proofs::WordLemmas::lining))]
 fn print_line(alloc: Global, reply: &Reply) -> Result<String, AllocError>
-    ensures { IfOk result (λ t. string_bytes t ≡ reply_line reply.now) }
+    ensures { IfOk result (λ t. IsReplyLine reply.now (string_bytes t)) }
 {
     let mut text = print(alloc, reply)?;
     text.push('\n')?;

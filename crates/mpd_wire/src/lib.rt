@@ -8,6 +8,7 @@ mod look_values;
 pub mod parser;
 pub mod printer;
 pub(crate) mod shape;
+mod words;
 
 pub use engine::{End, JsonDesk, serve, serve_by};
 pub use fault::WireFault;

@@ -1,17 +1,20 @@
 //! Answers to looks at the script, at all ranks and at steps as JSON.
 
-ghost use Rattle.std.specs.Prelude.{◌≡◌, ◌++◌, ◌∷◌, [], IfOk, map, string_bytes, codes, true};
+ghost use Rattle.std.specs.Prelude.{◌≡◌, ◌++◌, ◌∷◌, [], IfOk, List, Option, map, string_bytes, codes, true};
 ghost use Rattle.serde_json.specs.View.{view, members_view};
 ghost use Rattle.serde_json.specs.Data.{Data, Members, boolean, object, put, string};
+ghost use Rattle.mpd_model.specs.script.Declaration.{Declared};
 ghost use Rattle.mpd_model.specs.texts.Modes.{mode_word};
-ghost use Rattle.mpd_wire.specs.Replies.{natural, integer, or_null, call_or_null, coming_name, holding, listed, members, maybe, is_ok, answer_fields};
+ghost use Rattle.mpd_wire.specs.Replies.{natural, integer, or_null, call_or_null, coming_name, holding, placed, listed, members, maybe, is_ok, answer_fields};
 ghost use Rattle.mpd_session.specs.declared.reply.Answer.TheVariants as answer;
+ghost use Rattle.mpd_session.specs.declared.reply.Explained.{Explained};
 
 use crate::printer::{
     Fields, handles_value, integers_value, no_fields, object_of, texts_value, with_depth,
     with_field, with_flag, with_number, with_text, with_version,
 };
-use mpd_model::{CallId, Mode};
+use mpd_explain::PlacedStep;
+use mpd_model::{CallId, Mode, print_step};
 use mpd_session::{Coming, Holding, HoldingList, Text};
 use serde_json::Value;
 use std::alloc::{AllocError, Global};
@@ -124,7 +127,7 @@ pub(crate) fn where_value(
     ready: &[usize],
     held: &Option<HoldingList>,
 ) -> Result<Value, AllocError>
-    ensures { IfOk result (λ v. view v ≡ object (members (answer_fields (answer.Where (map string_bytes ranks.now) lines.now ready.now held.now) ++ (codes "version", natural version) ∷ []))) }
+    ensures { IfOk result (λ v. view v ≡ object (members (answer_fields [] (answer.Where (map string_bytes ranks.now) lines.now ready.now held.now) ++ (codes "version", natural version) ∷ []))) }
 {
     let fields = held_fields(alloc, held);
     let fields = with_made(alloc, fields, "lines", handles_value(alloc, lines));
@@ -158,7 +161,7 @@ pub(crate) fn script_value(
     version: u64,
     script: BareScript<'_>,
 ) -> Result<Value, AllocError>
-    ensures { IfOk result (λ v. view v ≡ object (members (answer_fields (answer.Script script.entry.ranks script.entry.mode (map string_bytes script.entry.vars.now) (map string_bytes script.entry.handles.now) script.entry.lines.now) ++ (codes "version", natural version) ∷ []))) }
+    ensures { IfOk result (λ v. view v ≡ object (members (answer_fields [] (answer.Script script.entry.ranks script.entry.mode (map string_bytes script.entry.vars.now) (map string_bytes script.entry.handles.now) script.entry.lines.now) ++ (codes "version", natural version) ∷ []))) }
 {
     let BareScript {
         ranks,
@@ -188,6 +191,25 @@ fn coming_name(coming: Coming) -> &'static str
     }
 }
 
+/// A step, by its text.
+fn step_value(alloc: Global, step: PlacedStep) -> Result<Value, AllocError>
+    ensures { IfOk result (λ v. view v ≡ placed step) }
+{
+    let text = print_step(alloc, step.step())?;
+    Value::try_from_str(alloc, text.as_str())
+}
+
+/// Steps as a list.
+fn step_values(alloc: Global, steps: &[PlacedStep]) -> Result<Value, AllocError>
+    ensures { IfOk result (λ v. view v ≡ listed placed steps.now) }
+{
+    let mut values = Vec::new(alloc);
+    for step in steps {
+        values.push(step_value(alloc, *step)?)?;
+    }
+    Ok(Value::Array(values))
+}
+
 /// The fields of a decision that stand before its lists.
 fn decided_fields(alloc: Global, coming: Coming, outcome: &Option<Text>) -> Fields
     ensures { IfOk result (λ f. members_view f.entries ≡ members ((codes "decision", string (coming_name coming)) ∷ is_ok ∷ maybe (codes "outcome") string outcome.now)) }
@@ -205,15 +227,15 @@ pub(crate) fn decided_value(
     alloc: Global,
     version: u64,
     coming: Coming,
-    steps: &[String],
-    told: &[String],
+    steps: &[PlacedStep],
     outcome: &Option<Text>,
+    words: &[String],
 ) -> Result<Value, AllocError>
-    ensures { IfOk result (λ v. view v ≡ object (members (answer_fields (answer.Decided coming (map string_bytes steps.now) (map string_bytes told.now) outcome.now) ++ (codes "version", natural version) ∷ []))) }
+    ensures { (decls : List Declared) → IfOk result (λ v. view v ≡ object (members (answer_fields (map string_bytes words.now) (answer.Decided coming steps.now decls outcome.now) ++ (codes "version", natural version) ∷ []))) }
 {
     let fields = decided_fields(alloc, coming, outcome);
-    let fields = with_made(alloc, fields, "steps", texts_value(alloc, steps));
-    let fields = with_made(alloc, fields, "told", texts_value(alloc, told));
+    let fields = with_made(alloc, fields, "steps", step_values(alloc, steps));
+    let fields = with_made(alloc, fields, "told", texts_value(alloc, words));
     with_version(alloc, fields, version)
 }
 
@@ -225,7 +247,7 @@ pub(crate) fn listed_value(
     steps: &[String],
     undone: usize,
 ) -> Result<Value, AllocError>
-    ensures { IfOk result (λ v. view v ≡ object (members (answer_fields (answer.Steps depth (map string_bytes steps.now) undone) ++ (codes "version", natural version) ∷ []))) }
+    ensures { IfOk result (λ v. view v ≡ object (members (answer_fields [] (answer.Steps depth (map string_bytes steps.now) undone) ++ (codes "version", natural version) ∷ []))) }
 {
     let fields = with_depth(alloc, no_fields(alloc), depth);
     let fields = with_made(alloc, fields, "steps", texts_value(alloc, steps));
@@ -240,7 +262,7 @@ pub(crate) fn lines_value(
     lines: &[usize],
     partners: &[Option<CallId>],
 ) -> Result<Value, AllocError>
-    ensures { IfOk result (λ v. view v ≡ object (members (answer_fields (answer.Lines lines.now partners.now) ++ (codes "version", natural version) ∷ []))) }
+    ensures { IfOk result (λ v. view v ≡ object (members (answer_fields [] (answer.Lines lines.now partners.now) ++ (codes "version", natural version) ∷ []))) }
 {
     let numbers = numbers_value(alloc, lines);
     let fields = with_made(alloc, no_fields(alloc), "lines", numbers);
@@ -253,11 +275,11 @@ pub(crate) fn lines_value(
 pub(crate) fn explained_value(
     alloc: Global,
     version: u64,
-    lines: &[String],
+    words: &[String],
 ) -> Result<Value, AllocError>
-    ensures { IfOk result (λ v. view v ≡ object (members (answer_fields (answer.Explained (map string_bytes lines.now)) ++ (codes "version", natural version) ∷ []))) }
+    ensures { (told : Option Explained) → IfOk result (λ v. view v ≡ object (members (answer_fields (map string_bytes words.now) (answer.Explained told) ++ (codes "version", natural version) ∷ []))) }
 {
     let fields = with_flag(alloc, no_fields(alloc), "ok", true);
-    let fields = with_made(alloc, fields, "told", texts_value(alloc, lines));
+    let fields = with_made(alloc, fields, "told", texts_value(alloc, words));
     with_version(alloc, fields, version)
 }

@@ -3,7 +3,7 @@
 ghost use Rattle.std.specs.Prelude.{◌≡◌, IfOk, map, string_bytes, codes, true, false, Some, None, ◌∷◌, [], ◌++◌, List, ℕ};
 ghost use Rattle.serde_json.specs.View.{view, members_view};
 ghost use Rattle.serde_json.specs.Data.{Members, no_members, member, object, boolean, string, put};
-ghost use Rattle.mpd_wire.specs.Replies.{natural, integer, or_null, listed, members, maybe, is_ok, stop_name, stop_number, refused, refusal_fields, answer_fields, fields_of, reply_data, reply_text};
+ghost use Rattle.mpd_wire.specs.Replies.{natural, integer, or_null, listed, members, maybe, is_ok, stop_name, stop_number, refused, refusal_fields, answer_fields, fields_of, reply_data, reply_text, IsReplyText};
 ghost use Rattle.mpd_session.specs.declared.reply.Answer.TheVariants as answer;
 ghost use Rattle.mpd_session.specs.declared.reply.Refusal.TheVariants as refusal;
 
@@ -11,6 +11,7 @@ use crate::look_values::{
     BareScript, decided_value, explained_value, lines_value, listed_value, script_value,
     where_value,
 };
+use crate::words::reply_words;
 use mpd_model::{Cause, Step, Stop, print_step};
 use mpd_session::{Answer, HandleList, IntegerList, Refusal, Reply, Text, TextList};
 use serde_json::{Map, Value, put};
@@ -20,18 +21,27 @@ use std::alloc::{AllocError, Global};
 pub(crate) type Fields = Result<Map<String, Value>, AllocError>;
 
 /// The text of a reply (docs/SESSIONS.md, "Replies"), without its line feed. An `Err` is want of memory.
+#[tactic(auto, using(crate::proofs::WordLemmas::wording))]
 pub fn print(alloc: Global, reply: &Reply) -> Result<String, AllocError>
-    ensures { IfOk result (λ s. string_bytes s ≡ reply_text reply.now) }
+    ensures { IfOk result (λ s. IsReplyText reply.now (string_bytes s)) }
 {
-    value_of(alloc, reply)?.to_string(alloc)
+    let words = reply_words(alloc, reply)?;
+    print_with(alloc, reply, &words.items)
+}
+
+/// The text of a reply with these words.
+fn print_with(alloc: Global, reply: &Reply, words: &[String]) -> Result<String, AllocError>
+    ensures { IfOk result (λ s. string_bytes s ≡ reply_text (map string_bytes words.now) reply.now) }
+{
+    value_of(alloc, reply, words)?.to_string(alloc)
 }
 
 #[tactic(auto, unfolding(crate::specs::Replies::reply_data))]
-fn value_of(alloc: Global, reply: &Reply) -> Result<Value, AllocError>
-    ensures { IfOk result (λ v. view v ≡ reply_data reply.now) }
+fn value_of(alloc: Global, reply: &Reply, words: &[String]) -> Result<Value, AllocError>
+    ensures { IfOk result (λ v. view v ≡ reply_data (map string_bytes words.now) reply.now) }
 {
     match reply {
-        Reply::Done { version, answer } => done(alloc, *version, answer),
+        Reply::Done { version, answer } => done(alloc, *version, answer, words),
         Reply::Refused(refusal) => refused_value(alloc, *refusal),
     }
 }
@@ -192,8 +202,8 @@ fn refused_value(alloc: Global, refusal: Refusal) -> Result<Value, AllocError>
     }
 }
 
-fn done(alloc: Global, version: u64, answer: &Answer) -> Result<Value, AllocError>
-    ensures { IfOk result (λ v. view v ≡ object (members (answer_fields answer.now ++ (codes "version", natural version) ∷ []))) }
+fn done(alloc: Global, version: u64, answer: &Answer, words: &[String]) -> Result<Value, AllocError>
+    ensures { IfOk result (λ v. view v ≡ object (members (answer_fields (map string_bytes words.now) answer.now ++ (codes "version", natural version) ∷ []))) }
 {
     match answer {
         Answer::Depth(depth) => depth_value(alloc, version, *depth),
@@ -254,9 +264,9 @@ fn done(alloc: Global, version: u64, answer: &Answer) -> Result<Value, AllocErro
         Answer::Decided {
             coming,
             steps,
-            told,
+            decls: _,
             outcome,
-        } => decided_value(alloc, version, *coming, &steps.items, &told.items, outcome),
+        } => decided_value(alloc, version, *coming, &steps.items, outcome, words),
         Answer::Steps {
             depth,
             steps,
@@ -268,19 +278,19 @@ fn done(alloc: Global, version: u64, answer: &Answer) -> Result<Value, AllocErro
             &lines.items,
             &partners.items,
         ),
-        Answer::Explained(lines) => explained_value(alloc, version, &lines.items),
+        Answer::Explained(_) => explained_value(alloc, version, words),
     }
 }
 
 /// The object of a depth.
 fn depth_value(alloc: Global, version: u64, depth: usize) -> Result<Value, AllocError>
-    ensures { IfOk result (λ v. view v ≡ object (members (answer_fields (answer.Depth depth) ++ (codes "version", natural version) ∷ []))) }
+    ensures { IfOk result (λ v. view v ≡ object (members (answer_fields [] (answer.Depth depth) ++ (codes "version", natural version) ∷ []))) }
 {
     with_version(alloc, with_depth(alloc, no_fields(alloc), depth), version)
 }
 
 fn stepped_value(alloc: Global, version: u64, depth: usize, step: Step) -> Result<Value, AllocError>
-    ensures { IfOk result (λ v. view v ≡ object (members (answer_fields (answer.Stepped depth step) ++ (codes "version", natural version) ∷ []))) }
+    ensures { IfOk result (λ v. view v ≡ object (members (answer_fields [] (answer.Stepped depth step) ++ (codes "version", natural version) ∷ []))) }
 {
     let text = print_step(alloc, step)?;
     let fields = with_depth(alloc, no_fields(alloc), depth);
@@ -322,7 +332,7 @@ fn break_fields(alloc: Global, number: Option<usize>) -> Fields
 }
 
 fn ran_value(alloc: Global, version: u64, depth: usize, stop: Stop) -> Result<Value, AllocError>
-    ensures { IfOk result (λ v. view v ≡ object (members (answer_fields (answer.Ran depth stop) ++ (codes "version", natural version) ∷ []))) }
+    ensures { IfOk result (λ v. view v ≡ object (members (answer_fields [] (answer.Ran depth stop) ++ (codes "version", natural version) ∷ []))) }
 {
     let Stop { steps, cause } = stop;
     let fields = with_depth(alloc, break_fields(alloc, stop_number(cause)), depth);
@@ -332,7 +342,7 @@ fn ran_value(alloc: Global, version: u64, depth: usize, stop: Stop) -> Result<Va
 }
 
 fn steps_value(alloc: Global, version: u64, steps: &[String]) -> Result<Value, AllocError>
-    ensures { IfOk result (λ v. view v ≡ object (members (answer_fields (answer.Enabled (map string_bytes steps.now)) ++ (codes "version", natural version) ∷ []))) }
+    ensures { IfOk result (λ v. view v ≡ object (members (answer_fields [] (answer.Enabled (map string_bytes steps.now)) ++ (codes "version", natural version) ∷ []))) }
 {
     let steps = texts_value(alloc, steps)?;
     behind_ok(alloc, version, "steps", steps)
@@ -364,7 +374,7 @@ fn state_value(
     ranks: Value,
     sets: Value,
 ) -> Result<Value, AllocError>
-    ensures { (rs ss : List (List ℕ)) → view ranks ≡ listed string rs → view sets ≡ listed string ss → IfOk result (λ v. view v ≡ object (members (answer_fields (answer.State state.entry.depth rs ss state.entry.undone state.entry.outcome.now) ++ (codes "version", natural version) ∷ []))) }
+    ensures { (rs ss : List (List ℕ)) → view ranks ≡ listed string rs → view sets ≡ listed string ss → IfOk result (λ v. view v ≡ object (members (answer_fields [] (answer.State state.entry.depth rs ss state.entry.undone state.entry.outcome.now) ++ (codes "version", natural version) ∷ []))) }
 {
     let BareState {
         depth,
@@ -386,7 +396,7 @@ fn lists_value(
     ranks: &TextList,
     sets: &TextList,
 ) -> Result<Value, AllocError>
-    ensures { IfOk result (λ v. view v ≡ object (members (answer_fields (answer.State state.entry.depth ranks.now sets.now state.entry.undone state.entry.outcome.now) ++ (codes "version", natural version) ∷ []))) }
+    ensures { IfOk result (λ v. view v ≡ object (members (answer_fields [] (answer.State state.entry.depth ranks.now sets.now state.entry.undone state.entry.outcome.now) ++ (codes "version", natural version) ∷ []))) }
 {
     let ranks = texts_value(alloc, &ranks.items)?;
     match texts_value(alloc, &sets.items) {
@@ -442,7 +452,7 @@ fn cells_value(
     handles: &HandleList,
     out: &IntegerList,
 ) -> Result<Value, AllocError>
-    ensures { IfOk result (λ v. view v ≡ object (members (answer_fields (answer.Vars vars.now handles.now out.now) ++ (codes "version", natural version) ∷ []))) }
+    ensures { IfOk result (λ v. view v ≡ object (members (answer_fields [] (answer.Vars vars.now handles.now out.now) ++ (codes "version", natural version) ∷ []))) }
 {
     let vars = integers_value(alloc, &vars.items)?;
     match handles_value(alloc, &handles.items) {
@@ -455,21 +465,21 @@ fn cells_value(
 }
 
 fn calls_value(alloc: Global, version: u64, calls: &[String]) -> Result<Value, AllocError>
-    ensures { IfOk result (λ v. view v ≡ object (members (answer_fields (answer.Calls (map string_bytes calls.now)) ++ (codes "version", natural version) ∷ []))) }
+    ensures { IfOk result (λ v. view v ≡ object (members (answer_fields [] (answer.Calls (map string_bytes calls.now)) ++ (codes "version", natural version) ∷ []))) }
 {
     let calls = texts_value(alloc, calls)?;
     before_ok(alloc, version, "calls", calls)
 }
 
 fn partners_value(alloc: Global, version: u64, partners: &[String]) -> Result<Value, AllocError>
-    ensures { IfOk result (λ v. view v ≡ object (members (answer_fields (answer.Partners (map string_bytes partners.now)) ++ (codes "version", natural version) ∷ []))) }
+    ensures { IfOk result (λ v. view v ≡ object (members (answer_fields [] (answer.Partners (map string_bytes partners.now)) ++ (codes "version", natural version) ∷ []))) }
 {
     let partners = texts_value(alloc, partners)?;
     behind_ok(alloc, version, "partners", partners)
 }
 
 fn added_value(alloc: Global, version: u64, number: usize) -> Result<Value, AllocError>
-    ensures { IfOk result (λ v. view v ≡ object (members (answer_fields (answer.Added number) ++ (codes "version", natural version) ∷ []))) }
+    ensures { IfOk result (λ v. view v ≡ object (members (answer_fields [] (answer.Added number) ++ (codes "version", natural version) ∷ []))) }
 {
     before_ok(alloc, version, "break", Value::from(number))
 }
@@ -482,7 +492,7 @@ fn removed_value(alloc: Global, version: u64) -> Result<Value, AllocError>
 }
 
 fn breaks_value(alloc: Global, version: u64, breaks: &[String]) -> Result<Value, AllocError>
-    ensures { IfOk result (λ v. view v ≡ object (members (answer_fields (answer.Breaks (map string_bytes breaks.now)) ++ (codes "version", natural version) ∷ []))) }
+    ensures { IfOk result (λ v. view v ≡ object (members (answer_fields [] (answer.Breaks (map string_bytes breaks.now)) ++ (codes "version", natural version) ∷ []))) }
 {
     let breaks = texts_value(alloc, breaks)?;
     before_ok(alloc, version, "breaks", breaks)
@@ -490,7 +500,7 @@ fn breaks_value(alloc: Global, version: u64, breaks: &[String]) -> Result<Value,
 
 /// The object of the breakpoint that the last step hits, or of none.
 fn hit_value(alloc: Global, version: u64, hit: Option<usize>) -> Result<Value, AllocError>
-    ensures { IfOk result (λ v. view v ≡ object (members (answer_fields (answer.Hit hit) ++ (codes "version", natural version) ∷ []))) }
+    ensures { IfOk result (λ v. view v ≡ object (members (answer_fields [] (answer.Hit hit) ++ (codes "version", natural version) ∷ []))) }
 {
     let fields = with_flag(alloc, break_fields(alloc, hit), "ok", true);
     with_version(alloc, fields, version)
@@ -502,7 +512,7 @@ fn leaves_value(
     leaves: &[String],
     more: bool,
 ) -> Result<Value, AllocError>
-    ensures { IfOk result (λ v. view v ≡ object (members (answer_fields (answer.Explored (map string_bytes leaves.now) more) ++ (codes "version", natural version) ∷ []))) }
+    ensures { IfOk result (λ v. view v ≡ object (members (answer_fields [] (answer.Explored (map string_bytes leaves.now) more) ++ (codes "version", natural version) ∷ []))) }
 {
     let leaves = texts_value(alloc, leaves)?;
     let fields = with_field(alloc, no_fields(alloc), "leaves", leaves);

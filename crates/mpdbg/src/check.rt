@@ -3,11 +3,14 @@
 ghost use Rattle.std.specs.Prelude.{◌≡◌, ◌≤◌, if◌then◌else◌};
 ghost use Rattle.mpd_options.specs.Clashes.{wants_traps};
 
+use crate::check_json::{
+    drawn_as_json, least_as_json, mode_as_json, ways_as_json, whole_as_json,
+};
 use crate::progress::{OfPiece, Progress};
 use crate::summary::{Limit, Made, say_counts, say_least, say_part, say_states, say_tally};
 use crate::tell::Fault;
 use mpd_check::{
-    CheckFault, OutcomesPlan, SamplePlan, Tally, Telling, Tried, Wanted, check_listing, check_mode,
+    CheckFault, OutcomesFound, OutcomesPlan, SamplePlan, Tally, Telling, Tried, Wanted, check_listing, check_mode,
     check_mode_outcomes, check_outcomes, check_piece, check_sample, check_search, count_pieces,
     is_crew, put_least,
 };
@@ -15,7 +18,7 @@ use mpd_code::{Code, Subject};
 use mpd_explore::{SearchLimits, Witnesses};
 use mpd_lines::Verdict;
 use mpd_model::{Mode, RUNS_MAX, STEPS_MAX, Sink};
-use mpd_options::{CheckOptions, Clash};
+use mpd_options::{CheckOptions, Clash, Form};
 use mpd_outcomes::{Goal, StateLimits};
 use mpd_pool::{Crew, SearchPlan};
 use std::marker::Sync;
@@ -31,11 +34,12 @@ const STATES_MAX: usize = 16_000_000;
 /// How many states are come to at most, kept or not.
 const VISITED_MAX: usize = 20_000_000;
 
-/// A script that is checked: its code in a mode, and its text, whose marks name places of a program.
+/// A script that is checked: its code in a mode, and its text, whose marks name places of a
+/// program.
 #[derive(Clone, Copy)]
-struct CheckedScript<'s> {
-    subject: Subject<'s>,
-    text: &'s [u8],
+pub(crate) struct CheckedScript<'s> {
+    pub(crate) subject: Subject<'s>,
+    pub(crate) text: &'s [u8],
 }
 
 /// What is looked at.
@@ -55,8 +59,9 @@ enum Part {
     Outcomes,
 }
 
-/// What is looked at, by the words: several modes are asked for before all else, and how many pieces there are before one of them. What
-/// is drawn stands beside none of these, and the ways to end stand beside several modes alone.
+/// What is looked at, by the words: several modes are asked for before all else, and how many
+/// pieces there are before one of them. What is drawn stands beside none of these, and the ways to
+/// end stand beside several modes alone.
 fn part_of(options: CheckOptions) -> Part {
     if let Some(most) = options.modes {
         return Part::Modes(most);
@@ -89,7 +94,7 @@ fn witnesses_of(options: CheckOptions) -> Witnesses
 }
 
 /// What is asked of the report.
-fn plan_of(options: CheckOptions) -> SearchPlan
+pub(crate) fn plan_of(options: CheckOptions) -> SearchPlan
     ensures { result.limits.fuel ≡ options.fuel }
 {
     SearchPlan {
@@ -105,7 +110,7 @@ fn plan_of(options: CheckOptions) -> SearchPlan
 }
 
 /// What is asked of a sample of so many runs.
-fn sample_plan_of(options: CheckOptions, runs: usize) -> SamplePlan
+pub(crate) fn sample_plan_of(options: CheckOptions, runs: usize) -> SamplePlan
     ensures { result.limits.fuel ≡ options.fuel }
 {
     SamplePlan {
@@ -134,7 +139,7 @@ fn goal_of(options: CheckOptions) -> Option<Goal> {
 }
 
 /// How far the search for ways to end goes, with the texts of witnesses or without.
-fn state_limits_of(options: CheckOptions, witnesses: Witnesses) -> StateLimits
+pub(crate) fn state_limits_of(options: CheckOptions, witnesses: Witnesses) -> StateLimits
     ensures { result.fuel ≡ options.fuel }
 {
     StateLimits {
@@ -147,7 +152,7 @@ fn state_limits_of(options: CheckOptions, witnesses: Witnesses) -> StateLimits
 }
 
 /// How the ways to end are looked for.
-fn outcomes_plan_of(options: CheckOptions, text: &[u8]) -> OutcomesPlan<'_>
+pub(crate) fn outcomes_plan_of(options: CheckOptions, text: &[u8]) -> OutcomesPlan<'_>
     ensures { result.limits.fuel ≡ options.fuel }
 {
     OutcomesPlan {
@@ -158,7 +163,7 @@ fn outcomes_plan_of(options: CheckOptions, text: &[u8]) -> OutcomesPlan<'_>
 }
 
 /// Whether a report's runs are those of the wide walk: each end once, drawn, or counted.
-fn is_wide(options: CheckOptions) -> bool {
+pub(crate) fn is_wide(options: CheckOptions) -> bool {
     options.ends || options.sample.is_some() || options.outcomes
 }
 
@@ -199,6 +204,9 @@ fn check_told<R: Clock + Eprint + Threads + Sync + AllocGlobal, W: Sink>(
 ) -> Result<Tally, CheckFault>
     requires { options.fuel ≤ STEPS_MAX }
 {
+    if let Form::Json = options.form {
+        return whole_as_json(rt, script, options, sink, progress);
+    }
     let crew = crew_of(rt, options);
     if !options.explain && !options.group {
         return check_search(
@@ -221,7 +229,7 @@ fn check_told<R: Clock + Eprint + Threads + Sync + AllocGlobal, W: Sink>(
 }
 
 /// Who explores.
-fn crew_of<'r, R>(rt: &'r R, options: CheckOptions) -> Crew<'r, R> {
+pub(crate) fn crew_of<'r, R>(rt: &'r R, options: CheckOptions) -> Crew<'r, R> {
     Crew {
         rt,
         workers: options.workers,
@@ -229,7 +237,7 @@ fn crew_of<'r, R>(rt: &'r R, options: CheckOptions) -> Crew<'r, R> {
 }
 
 /// What a report has beside its leaves.
-fn telling_of(options: CheckOptions, text: &[u8]) -> Telling<'_> {
+pub(crate) fn telling_of(options: CheckOptions, text: &[u8]) -> Telling<'_> {
     Telling {
         explain: options.explain,
         group: options.group,
@@ -238,7 +246,7 @@ fn telling_of(options: CheckOptions, text: &[u8]) -> Telling<'_> {
 }
 
 /// What is wanted of a report.
-fn wanted_of(options: CheckOptions, text: &[u8]) -> Wanted<'_>
+pub(crate) fn wanted_of(options: CheckOptions, text: &[u8]) -> Wanted<'_>
     ensures { result.plan.limits.fuel ≡ options.fuel }
 {
     Wanted {
@@ -262,17 +270,16 @@ fn check_drawn<R: Clock + Eprint + AllocGlobal, W: Sink>(
     let mut watch = OfPiece {
         progress: &progress,
     };
-    let drawn = check_sample(
-        rt.alloc(),
-        script.subject,
-        sample_plan_of(options, runs),
-        telling_of(options, script.text),
-        sink,
-        &mut watch,
-    );
-    let tally = match drawn {
-        Ok(tally) => tally,
-        Err(fault) => return Err(CheckFault::Engine(fault)),
+    let tally = match options.form {
+        Form::Json => drawn_as_json(rt, script, options, runs, sink, &mut watch)?,
+        Form::Text => check_sample(
+            rt.alloc(),
+            script.subject,
+            sample_plan_of(options, runs),
+            telling_of(options, script.text),
+            sink,
+            &mut watch,
+        )?,
     };
     if is_terminal {
         let _unwritten = say_tally(rt, script.subject, tally, made_by(options));
@@ -280,7 +287,27 @@ fn check_drawn<R: Clock + Eprint + AllocGlobal, W: Sink>(
     Ok(tally)
 }
 
-/// Looks for the ways to end, and tells at a terminal what came of it and how many states were come to.
+/// Looks for the ways to end, and has them written.
+fn ways_told<R: AllocGlobal, W: Sink>(
+    rt: &R,
+    script: CheckedScript<'_>,
+    options: CheckOptions,
+    sink: &mut W,
+) -> Result<OutcomesFound, CheckFault>
+    requires { options.fuel ≤ STEPS_MAX }
+{
+    if let Form::Json = options.form {
+        return ways_as_json(rt, script, options, sink);
+    }
+    let plan = outcomes_plan_of(options, script.text);
+    match check_outcomes(rt.alloc(), script.subject, plan, sink) {
+        Ok(found) => Ok(found),
+        Err(fault) => Err(CheckFault::Engine(fault)),
+    }
+}
+
+/// Looks for the ways to end, and tells at a terminal what came of it and how many states were come
+/// to.
 fn check_ways<R: Eprint + AllocGlobal, W: Sink>(
     rt: &R,
     script: CheckedScript<'_>,
@@ -290,15 +317,7 @@ fn check_ways<R: Eprint + AllocGlobal, W: Sink>(
 ) -> Result<Tally, CheckFault>
     requires { options.fuel ≤ STEPS_MAX }
 {
-    let found = match check_outcomes(
-        rt.alloc(),
-        script.subject,
-        outcomes_plan_of(options, script.text),
-        sink,
-    ) {
-        Ok(found) => found,
-        Err(fault) => return Err(CheckFault::Engine(fault)),
-    };
+    let found = ways_told(rt, script, options, sink)?;
     if is_terminal {
         let _unwritten = say_counts(
             rt,
@@ -330,7 +349,8 @@ fn check_all<R: Clock + Eprint + Threads + Sync + AllocGlobal, W: Sink>(
     Ok(tally)
 }
 
-/// Explores one piece, and tells at a terminal how far that is, and what of it wasn't tried. That all of it was says nothing of others.
+/// Explores one piece, and tells at a terminal how far that is, and what of it wasn't tried. That
+/// all of it was says nothing of others.
 fn check_one<R: Clock + Eprint + AllocGlobal, W: Sink>(
     rt: &R,
     script: CheckedScript<'_>,
@@ -363,6 +383,9 @@ fn tally_in_mode<R: Clock + Eprint + Threads + Sync + AllocGlobal, W: Sink>(
 ) -> Result<Tally, CheckFault>
     requires { options.fuel ≤ STEPS_MAX }
 {
+    if let Form::Json = options.form {
+        return mode_as_json(rt, subject, options, sink, is_terminal);
+    }
     let alloc = rt.alloc();
     if options.outcomes {
         return match check_mode_outcomes(
@@ -395,7 +418,8 @@ fn check_one_mode<R: Clock + Eprint + Threads + Sync + AllocGlobal, W: Sink>(
     Ok(tried.and(subject.mode, tally))
 }
 
-/// Looks at rendezvous, at 1 slot and more up to `most`, and at buffered, and tells at a terminal which modes list a deadlock or a trap.
+/// Looks at rendezvous, at 1 slot and more up to `most`, and at buffered, and tells at a terminal
+/// which modes list a deadlock or a trap.
 fn check_modes<R: Clock + Eprint + Threads + Sync + AllocGlobal, W: Sink>(
     rt: &R,
     code: &Code,
@@ -418,7 +442,10 @@ fn check_modes<R: Clock + Eprint + Threads + Sync + AllocGlobal, W: Sink>(
     }
     subject.mode = Mode::Buffered;
     tried = check_one_mode(rt, subject, options, tried, sink, is_terminal)?;
-    put_least(rt.alloc(), tried.least, sink)?;
+    match options.form {
+        Form::Json => least_as_json(rt, tried, options, sink)?,
+        Form::Text => put_least(rt.alloc(), tried.least, sink)?,
+    }
     if is_terminal {
         let _unwritten = say_least(rt, tried);
     }
@@ -465,7 +492,8 @@ fn verdict_of<R: Clock + Eprint + Threads + Sync + AllocGlobal, W: Sink>(
     Ok(tally.verdict(options.complete, script.subject, is_wide(options)))
 }
 
-/// Looks for deadlocks and traps in a script, given its text too. The number of workers is tested first.
+/// Looks for deadlocks and traps in a script, given its text too. The number of workers is tested
+/// first.
 pub(crate) fn check_script<'a, R: Clock + Eprint + Threads + Sync + AllocGlobal, W: Sink>(
     rt: &R,
     subject: Subject<'_>,

@@ -1,4 +1,5 @@
-//! `mpdbg diagnose`: whether the runs of a script can hang or trap, how, and where that was decided (docs/FORMATS.md, "Diagnosis").
+//! `mpdbg diagnose`: whether the runs of a script can hang or trap, how, and where that was decided
+//! (docs/FORMATS.md, "Diagnosis").
 
 ghost use Rattle.std.specs.Prelude.{◌≡◌, ◌≤◌, Some, None};
 ghost use Rattle.mpd_trace.specs.Ranks.{AreRanks};
@@ -7,12 +8,14 @@ ghost use Rattle.mpd_trace.specs.Spans.{IsSpan};
 use crate::tell::Fault;
 use mpd_code::{Code, Subject};
 use mpd_diagnose::{
-    DiagnosisPlan, ScriptInModes, closing_of, diagnose, diagnose_mode, full_command, modes_up_to,
-    ranks_line, verdict_of, worst_of,
+    Diagnosis, DiagnosisPlan, Named, ScriptInModes, closing_of, diagnose, diagnosis_text,
+    full_command, leaves, mode_line, modes_up_to, push_verdict, ranks_line, verdict_of, worst_of,
 };
 use mpd_explore::Witnesses;
+use mpd_json::diagnosis_json;
 use mpd_lines::{EngineFault, Verdict, write_all};
 use mpd_model::{Mode, STEPS_MAX, Sink};
+use mpd_options::Form;
 use mpd_outcomes::StateLimits;
 use mpd_runs::{FUEL, STATES_KEPT, STATES_VISITED};
 use mpd_trace::{RankSpan, code_of_text};
@@ -24,8 +27,8 @@ const VISITED_MAX: usize = 4_000_000;
 /// How many runs are drawn, where there are more than that search comes to.
 const DRAWN: usize = 4_096;
 
-/// A script as a diagnosis tells of it: its text, whose marks stand beside lines, the name of its file, and how many ranks it has, if
-/// that is asked for.
+/// A script as a diagnosis tells of it: its text, whose marks stand beside lines, the name of its
+/// file, and how many ranks it has, if that is asked for.
 #[derive(Clone, Copy)]
 pub(crate) struct ToldScript<'s> {
     pub(crate) text: &'s [u8],
@@ -34,7 +37,7 @@ pub(crate) struct ToldScript<'s> {
 }
 
 /// How a script is diagnosed: by limits that nobody has to know.
-fn plan_of(script: ToldScript<'_>) -> DiagnosisPlan<'_>
+fn plan_of() -> DiagnosisPlan
     ensures limits { result.limits ≡ record { fuel = FUEL; kept = STATES_KEPT; visited = VISITED_MAX; witnesses = Witnesses.OfNone; until = None } }
     ensures blamed { result.blamed ≡ STATES_VISITED }
     ensures drawn { result.drawn ≡ DRAWN }
@@ -49,28 +52,74 @@ fn plan_of(script: ToldScript<'_>) -> DiagnosisPlan<'_>
         },
         blamed: STATES_VISITED,
         drawn: DRAWN,
-        script: script.text,
-        file: script.file,
-        ranks: script.ranks,
     }
 }
 
-/// Says whether the runs of the script of a file can hang or trap, and answers the verdict; that calls can be left over counts where
-/// `strict` says so.
+/// How a diagnosis is told, and judged.
+#[derive(Clone, Copy)]
+pub(crate) struct Telling {
+    /// Whether calls that can be left over count.
+    pub(crate) strict: bool,
+    /// How each diagnosis is written.
+    pub(crate) form: Form,
+}
+
+/// A diagnosis as JSON.
+fn json_of(
+    alloc: Global,
+    subject: Subject<'_>,
+    text: &[u8],
+    diagnosis: &Diagnosis,
+    verdict: Verdict,
+) -> Result<Vec<u8>, AllocError> {
+    let told = mpd_json::ToldScript {
+        code: subject.code,
+        mode: subject.mode,
+        text,
+    };
+    let json = diagnosis_json(alloc, told, diagnosis, verdict)?;
+    Ok(json.into_bytes())
+}
+
+/// A diagnosis as text.
+fn text_of(
+    alloc: Global,
+    subject: Subject<'_>,
+    script: ToldScript<'_>,
+    diagnosis: &Diagnosis,
+) -> Result<Vec<u8>, AllocError> {
+    let named = Named {
+        script: script.text,
+        decls: subject.code.decls(),
+        file: script.file,
+        ranks: script.ranks,
+        mode: subject.mode,
+    };
+    diagnosis_text(alloc, named, FUEL, diagnosis)
+}
+
+/// Says whether the runs of the script of a file can hang or trap, and answers the verdict; that
+/// calls can be left over counts where `strict` says so.
 pub(crate) fn diagnose_script<'a, W: Sink>(
     alloc: Global,
     subject: Subject<'_>,
     script: ToldScript<'_>,
-    strict: bool,
+    telling: Telling,
     sink: &mut W,
 ) -> Result<Verdict, Fault<'a>> {
-    let told = diagnose(alloc, subject, plan_of(script))?;
-    write_told(sink, &told.text)?;
-    Ok(verdict_of(&told, strict))
+    let diagnosis = diagnose(alloc, subject, plan_of())?;
+    let verdict = verdict_of(&diagnosis, telling.strict);
+    let told = match telling.form {
+        Form::Text => text_of(alloc, subject, script, &diagnosis)?,
+        Form::Json => json_of(alloc, subject, script.text, &diagnosis, verdict)?,
+    };
+    write_told(sink, &told)?;
+    Ok(verdict)
 }
 
-/// What is said of the runs of the script of a file by a search with these limits, in lines of 80 columns at most: the first lines, which
-/// are told of all runs that it comes to. No step that decides is looked for, and no run is drawn.
+/// What is said of the runs of a script by a search with these limits, in lines of 80 columns at
+/// most: the first lines, which are told of all runs that it comes to. No step that decides is
+/// looked for, and no run is drawn.
 pub(crate) fn said_of<'a>(
     alloc: Global,
     subject: Subject<'_>,
@@ -84,12 +133,17 @@ pub(crate) fn said_of<'a>(
         limits,
         blamed: 0,
         drawn: 0,
+    };
+    let diagnosis = diagnose(alloc, subject, plan)?;
+    let named = Named {
         script: &[],
+        decls: subject.code.decls(),
         file,
         ranks,
+        mode: subject.mode,
     };
-    let told = diagnose(alloc, subject, plan)?;
-    Ok(told.text)
+    let told = diagnosis_text(alloc, named, limits.fuel, &diagnosis)?;
+    Ok(told)
 }
 
 /// Writes what is told.
@@ -100,17 +154,18 @@ fn write_told<'a, W: Sink>(sink: &mut W, told: &[u8]) -> Result<(), Fault<'a>> {
     Ok(())
 }
 
-/// A script that is diagnosed for several numbers of ranks: its text, which is that of a script, and how it is named.
+/// A script that is diagnosed for several numbers of ranks: its text, which is that of a script,
+/// and how it is named.
 #[derive(Clone, Copy)]
 pub(crate) struct SpannedScript<'s> {
     pub(crate) text: &'s [u8],
     pub(crate) file: &'s str,
     pub(crate) mode: Mode,
-    /// Whether calls that can be left over count.
-    pub(crate) strict: bool,
+    pub(crate) telling: Telling,
 }
 
-/// Says by a line what the runs of a script come to for a number of ranks, and answers the verdict.
+/// Says what the runs of a script come to for a number of ranks, by a line, and answers the
+/// verdict.
 fn diagnose_number<'a, W: Sink>(
     alloc: Global,
     script: SpannedScript<'_>,
@@ -126,15 +181,14 @@ fn diagnose_number<'a, W: Sink>(
         code: &code,
         mode: script.mode,
     };
-    let named = ToldScript {
-        text: script.text,
-        file: script.file,
-        ranks: Some(ranks),
+    let diagnosis = diagnose(alloc, subject, plan_of())?;
+    let verdict = verdict_of(&diagnosis, script.telling.strict);
+    let told = match script.telling.form {
+        Form::Text => ranks_line(alloc, ranks, script.mode, &diagnosis)?,
+        Form::Json => json_of(alloc, subject, script.text, &diagnosis, verdict)?,
     };
-    let told = diagnose(alloc, subject, plan_of(named))?;
-    let line = ranks_line(alloc, ranks, script.mode, &told)?;
-    write_told(sink, &line)?;
-    Ok(verdict_of(&told, script.strict))
+    write_told(sink, &told)?;
+    Ok(verdict)
 }
 
 /// Adds a verdict to others.
@@ -149,8 +203,9 @@ fn add_flag(flags: &mut Vec<bool>, flag: bool) -> Result<(), AllocError> {
     Ok(())
 }
 
-/// Says by a line each what the runs of a script come to for several numbers of ranks, and then how to see more of the first that is bad.
-/// Answers what the verdicts come to. Each line is written as soon as it is known.
+/// Says by a line each what the runs of a script come to for several numbers of ranks, and then how
+/// to see more of the first that is bad. Answers what the verdicts come to. Each line is written as
+/// soon as it is known.
 pub(crate) fn diagnose_each<'a, W: Sink>(
     alloc: Global,
     script: SpannedScript<'_>,
@@ -168,40 +223,80 @@ pub(crate) fn diagnose_each<'a, W: Sink>(
         }
         add(&mut verdicts, verdict)?;
     }
-    if let Some(ranks) = first_bad {
+    if let (Some(ranks), Form::Text) = (first_bad, script.telling.form) {
         let ranks = Some(ranks);
-        let more = full_command(alloc, script.file, ranks, script.mode, script.strict)?;
+        let strict = script.telling.strict;
+        let more = full_command(alloc, script.file, ranks, script.mode, strict)?;
         write_told(sink, b"\n")?;
         write_told(sink, &more)?;
     }
     Ok(worst_of(&verdicts))
 }
 
-/// Says by a line each what the runs of a script come to in rendezvous, with 1 slot and more up to `most`, and in buffered, and then how to
-/// see more of the worst mode. Answers what the verdicts come to. Each line is written as soon as it is known.
+/// What is told of a mode, and what it comes to.
+#[derive(Drop)]
+struct ToldMode {
+    text: Vec<u8>,
+    verdict: Verdict,
+    /// Whether calls can be left over.
+    leaves: bool,
+}
+
+/// Diagnoses a script in a mode, to be told beside others.
+fn diagnose_mode(
+    alloc: Global,
+    subject: Subject<'_>,
+    text: &[u8],
+    telling: Telling,
+) -> Result<ToldMode, AllocError> {
+    let diagnosis = diagnose(alloc, subject, plan_of())?;
+    let verdict = verdict_of(&diagnosis, telling.strict);
+    let text = match telling.form {
+        Form::Text => mode_line(alloc, subject.mode, &diagnosis)?,
+        Form::Json => json_of(alloc, subject, text, &diagnosis, verdict)?,
+    };
+    Ok(ToldMode {
+        text,
+        verdict,
+        leaves: leaves(&diagnosis),
+    })
+}
+
+/// A script that is diagnosed in several modes, with its text.
+#[derive(Clone, Copy)]
+pub(crate) struct ToldInModes<'s> {
+    pub(crate) named: ScriptInModes<'s>,
+    pub(crate) text: &'s [u8],
+    pub(crate) form: Form,
+}
+
+/// Says by a line each what the runs of a script come to in rendezvous, with 1 slot and more up to
+/// `most`, and in buffered, and then how to see more of the worst mode. Answers what the verdicts
+/// come to. Each line is written as soon as it is known.
 pub(crate) fn diagnose_modes<'a, W: Sink>(
     alloc: Global,
     code: &Code,
-    script: ScriptInModes<'_>,
+    script: ToldInModes<'_>,
     most: usize,
     sink: &mut W,
 ) -> Result<Verdict, Fault<'a>> {
     let modes = modes_up_to(alloc, most)?;
-    let named = ToldScript {
-        text: &[],
-        file: script.file,
-        ranks: script.ranks,
+    let telling = Telling {
+        strict: script.named.strict,
+        form: script.form,
     };
     let mut verdicts = Vec::new(alloc);
     let mut left = Vec::new(alloc);
     for mode in &modes {
         let subject = Subject { code, mode: *mode };
-        let told = diagnose_mode(alloc, subject, plan_of(named), script.strict)?;
-        write_told(sink, &told.line)?;
+        let told = diagnose_mode(alloc, subject, script.text, telling)?;
+        write_told(sink, &told.text)?;
         add(&mut verdicts, told.verdict)?;
         add_flag(&mut left, told.leaves)?;
     }
-    let more = closing_of(alloc, script, &modes, &verdicts, &left)?;
-    write_told(sink, &more)?;
+    if let Form::Text = script.form {
+        let more = closing_of(alloc, script.named, &modes, &verdicts, &left)?;
+        write_told(sink, &more)?;
+    }
     Ok(worst_of(&verdicts))
 }

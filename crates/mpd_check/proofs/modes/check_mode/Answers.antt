@@ -10,4 +10,4 @@ pub returns-in-Ok-line_of : goal.returns-in-Ok-line_of
 returns-in-Ok-line_of g c =
     put_answered (mode_line Leaves c.args.subject.mode (tally_of (leaves_of c.args.subject.code.now.program c.args.subject.mode c.args.plan) (more_of c.args.subject.code.now.program c.args.subject.mode c.args.plan)))
     c.args.subject.code.now.program c.args.subject.mode c.args.plan c.args.crew.workers (g.W.Sink.seen c.args.sink.now) (g.W.Sink.seen c.put.new.sink) _ _ c.put.result
-    ((λ i. (c.into_bytes-text.ensures.value i).items) ∙ c.in-Ok-line_of.ensures ∙ ap (mode_line Leaves c.args.subject.mode) c.in-Ok.ensures.tally) c.in-Ok.ensures.tally (c.is_crew.ensures.0 c.if-not-is_crew.false) c.in-Ok.ensures.few c.put.ensures
+    ((λ i. (c.into_bytes-text.ensures.value i).items) ∙ c.in-Ok-line_of.ensures ∙ ap (mode_line Leaves c.args.subject.mode) c.in-Ok.ensures.0) c.in-Ok.ensures.0 c.in-Ok.ensures.1 c.in-Ok.ensures.2 c.put.ensures

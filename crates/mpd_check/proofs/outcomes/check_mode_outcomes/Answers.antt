@@ -1,4 +1,4 @@
-use Rattle.mpd_check.specs.OutcomesText.{IsModeLine}
+use Rattle.mpd_check.specs.Outcomes.{IsModeLine}
 use Rattle.mpd_check.proofs.OutcomesLemmas.{put_answered}
 use Rattle.mpd_check.proofs.outcomes.check_mode_outcomes.Goals as goal
 

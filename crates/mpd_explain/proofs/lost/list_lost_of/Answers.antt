@@ -1,7 +1,7 @@
 use Rattle.std.proofs.Common.{[], ◌∷◌}
 use Rattle.mpd_model.specs.steps.World.{call_id}
 use Rattle.mpd_explain.specs.Lost.{is_lost}
-use Rattle.mpd_explain.proofs.ShownLemmas.{passed_more}
+use Rattle.mpd_explain.proofs.ListLemmas.{passed_more}
 use Rattle.mpd_explain.proofs.lost.list_lost_of.Goals as goal
 
 pub loop-index-preserved : goal.loop-index-preserved

@@ -1,5 +1,5 @@
 use Rattle.std.proofs.lemmas.Slice.Eq.{slice_eq-Decides}
-use Rattle.mpd_session.proofs.SameLemmas.{option_Decides}
+use Rattle.mpd_names.proofs.EqualLemmas.{option_Decides}
 use Rattle.mpd_session.proofs.same.same_handles.Goals as goal
 
 pub returns : goal.returns

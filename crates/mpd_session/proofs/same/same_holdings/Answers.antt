@@ -1,5 +1,5 @@
 use Rattle.std.proofs.Common.{arith, rules}
-use Rattle.mpd_session.proofs.SameLemmas.{items_differ}
+use Rattle.mpd_names.proofs.EqualLemmas.{items_differ}
 use Rattle.mpd_session.proofs.same.same_holdings.Goals as goal
 
 pub returns-then-not-same_holding : goal.returns-then-not-same_holding

@@ -1,5 +1,5 @@
 use Rattle.std.proofs.Common.{arith, rules}
-use Rattle.mpd_session.proofs.SameLemmas.{items_at}
+use Rattle.mpd_names.proofs.EqualLemmas.{items_at}
 use Rattle.mpd_session.proofs.same.same_partners.Goals as goal
 
 pub returns-then-not-same_partner : goal.returns-then-not-same_partner

@@ -14,4 +14,4 @@ fields_are (Some text) name steps told version = refl
 pub returns : goal.returns
 returns c =
     subst (λ m. IfOk c.with_version.result (λ v. view v ≡ object m)) (fields_are _ _ _ _ _)
-    (c.with_version.ensures _ (c.with_made-fields-2.ensures _ _ (c.with_made-fields.ensures _ _ c.decided_fields-fields.ensures c.texts_value.ensures) c.texts_value-2.ensures))
+    (c.with_version.ensures _ (c.with_made-fields-2.ensures _ _ (c.with_made-fields.ensures _ _ c.decided_fields-fields.ensures c.step_values.ensures) c.texts_value.ensures))

@@ -1,5 +1,0 @@
-use Rattle.mpd_check.proofs.CheckLemmas.{same_start}
-use Rattle.mpd_check.proofs.part.tell_piece.Goals as goal
-
-pub returns : goal.returns
-returns g c = same_start c.args.wanted.telling _ _ _ _ _ _ c.in-Ok.ensures.standing c.tell_number.ensures

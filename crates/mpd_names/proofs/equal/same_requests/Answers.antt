@@ -1,0 +1,6 @@
+use Rattle.std.proofs.lemmas.Slice.Eq.{slice_eq-Decides}
+use Rattle.mpd_names.proofs.EqualLemmas.{option_Decides}
+use Rattle.mpd_names.proofs.equal.same_requests.Goals as goal
+
+pub returns : goal.returns
+returns c = slice_eq-Decides option_Decides c.args.one.now c.args.other.now c.eq.result c.eq.ensures
