@@ -172,11 +172,7 @@ fn candidates_at(
 }
 
 /// The candidates that are open and in which a rank takes part.
-fn candidates_of(
-    alloc: Global,
-    core: &Core<'_>,
-    rank: usize,
-) -> Result<Vec<Candidate>, AllocError>
+fn candidates_of(alloc: Global, core: &Core<'_>, rank: usize) -> Result<Vec<Candidate>, AllocError>
     ensures { IfOk result (λ list. list.items ≡ spec.candidates_of core.now.program core.now.world rank) }
 {
     let decided = decide(alloc, core)?;

@@ -130,12 +130,14 @@ fn variable_of(cells: Option<Named>) -> Option<usize>
     ensures { result ≡ spec.variable_of cells }
 {
     match cells {
-        Some(Named {
-            kind: DeclKind::Variable,
-            declaration: _,
-            first,
-            cells: 1,
-        }) => Some(first),
+        Some(
+            Named {
+                kind: DeclKind::Variable,
+                declaration: _,
+                first,
+                cells: 1,
+            },
+        ) => Some(first),
         _ => None,
     }
 }

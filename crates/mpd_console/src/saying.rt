@@ -4,7 +4,9 @@
 use crate::desk::Screen;
 use crate::looks::push_sight;
 use crate::prompts::{laid_out, marked_bytes, prompt_in, push_prompt};
-use crate::told::{Blamed, Carried, Laid, Moved, News, Numbered, Printed, Sight, Stopped, Told, Went, Why};
+use crate::told::{
+    Blamed, Carried, Laid, Moved, News, Numbered, Printed, Sight, Stopped, Told, Went, Why,
+};
 use mpd_blame::Blame;
 use mpd_core::Core;
 use mpd_explain::{PlacedStep, losses, position_of, push_losses, push_position};

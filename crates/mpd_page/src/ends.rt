@@ -97,11 +97,7 @@ fn limit_of(taken: usize) -> usize
 
 /// Where it was decided how the run of a debugger ends, as far as a search tells it that visits
 /// `most` states at most. On return the debugger is on the way back along its run.
-fn decided(
-    alloc: Global,
-    whole: &mut Debugger<'_>,
-    most: usize,
-) -> Result<PlacedBlame, AllocError>
+fn decided(alloc: Global, whole: &mut Debugger<'_>, most: usize) -> Result<PlacedBlame, AllocError>
     requires clean { length whole.old.trail.steps ≡ whole.old.trail.depth }
     ensures { IfOk result (IsBlamed most (spec.run_limit (length whole.old.trail.steps)) whole.old.trail.program whole.old.trail.mode whole.old.trail.steps) }
 {
