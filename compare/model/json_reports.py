@@ -6,6 +6,7 @@ tested by itself.
 """
 
 import json
+import re
 
 from model import explorer, marks
 from model.debugger import RENDEZVOUS
@@ -151,14 +152,46 @@ def explained(script, told):
 
 # ---- what is tested by itself
 
-def test_places(text, told):
-    """Tests that each line has the place of its mark beside it."""
+def step_word(step):
+    """The trace word of a step, by its calls or its rank; that of `wakeany` but for the number behind it."""
+    word = step['step'].split()[0]
+    if word == 'match':
+        return f'match {step["send"]["call"]} {step["receive"]["call"]}'
+    if word == 'wakeany':
+        must_be(re.fullmatch('wakeany [0-9]+ [0-9]+', step['step']), f'a step {step}')
+        return f'wakeany {step["rank"]} {step["step"].split()[-1]}'
+    return word if word == 'release' else f'{word} {step["rank"]}'
+
+
+def test_one(places, told):
+    """Tests that what an object has twice is the same, and that a line has the place of its mark beside it."""
+    if 'line' in told:
+        must_be(told['place'] == places.get(told['line']), f'the place of {told}')
+    if isinstance(told.get('call'), str):
+        must_be(told['call'].split('.')[0] == str(told['rank']), f'the rank of {told}')
+    if isinstance(told.get('call'), dict):
+        must_be(told['line'] == told['call']['line'] and told['rank'] == told['call']['rank'], f'the call of {told}')
+    if 'step' in told:
+        must_be(step_word(told) == told['step'], f'a step {told}')
+    if 'exact' in told:
+        must_be(told['exact'] is True or told['exact'] is False and told['count'] == MOST_COUNTED, f'a count {told}')
+    if 'stands' in told:
+        must_be(('call' in told) == (told['stands'] in ('waits', 'can_go_on')) and (told['stands'] != 'ended') == ('line' in told), f'where {told} stands')
+    if told.get('decided') == 'from_start':
+        must_be(told['depth'] == 0, f'a depth of {told}')
+    if 'end' in told and told['end'] is not None:
+        must_be(told.get('ends', told.get('ending', {}).get('ends')) == told['end']['ends'], f'an end of {told}')
+
+
+def test_alike(text, told, of='runs'):
+    """Tests so an object, and all inside it, in which runs are counted, or what else is."""
     places = marks.places_of(text)
     for one in told.values() if isinstance(told, dict) else told:
         if isinstance(one, (dict, list)):
-            test_places(text, one)
-    if isinstance(told, dict) and 'line' in told:
-        must_be(told['place'] == places.get(told['line']), f'the place of {told}')
+            test_alike(text, one, of)
+    if isinstance(told, dict):
+        test_one(places, told)
+        must_be(told.get('of', of) == of, f'a count {told}')
 
 
 def test_ending(leaf):
@@ -274,8 +307,14 @@ def checked_again(text, asked, result, is_wide):
     """The text of a check by its objects, the last of which has the status."""
     script, objects = read_script(text), read_objects(result.output)
     test_report(script, objects[-1], asked, result.status, is_wide)
+    of = 'outcomes' if is_wide and not hasattr(asked, 'ends') and asked.modes is not None else 'runs'
+    wanted = 'groups' if getattr(asked, 'group', False) else 'leaves' if hasattr(asked, 'ends') else 'outcomes'
     for told in objects:
-        test_places(text, told)
+        test_alike(text, told, of)
+        must_be(told['report'] == wanted or asked.modes is not None and told['report'] in ('mode', 'least'), f'a report {told["report"]}')
+        if told['report'] == 'mode':
+            must_be(told['ranks'] == script.ranks, f'ranks {told["ranks"]}')
+            test_counts(told['counts'])
     lines = [line for told in objects for line in report_lines(script, told)]
     return ''.join(f'{line}\n' for line in marks.all_marked(text, lines))
 
@@ -307,7 +346,8 @@ def test_diagnosis(asked, result):
     objects = read_objects(result.output)
     must_be(len(objects) == 1 and objects[0]['report'] == 'diagnosis', f'{len(objects)} objects')
     told = objects[0]
-    test_places(asked.script, told)
+    must_be(told['ranks'] == (asked.ranks or read_script(asked.script).ranks), f'ranks {told["ranks"]}')
+    test_alike(asked.script, told)
     must_be(told['status'] == result.status and told['verdict'] == VERDICTS[result.status], f'status {told["status"]}')
     must_be(told['mode'] == diagnosed.mode_of(asked), f'mode {told["mode"]}')
     search, found = asked.searched()

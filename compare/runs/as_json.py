@@ -3,6 +3,7 @@
     python3 compare/runs/as_json.py PROGRAM                 the scripts of explained.py, outcomes.py and diagnosed.py, 200 of each, the same
                                                             ones for a seed
     python3 compare/runs/as_json.py PROGRAM --count 1000    more of them
+    python3 compare/runs/as_json.py PROGRAM --broken        each value of some objects is changed, one at a time; each must be noticed
 
 Of a check the objects are told as text again (json_reports.py), which must be the text that the model writes without `--json`, byte for byte:
 so the verdict, the counts, choices, witnesses, groups, waits, whom ranks wait for, cycles, what is left over, traps with what they read, and the
@@ -11,6 +12,8 @@ groups with their lines, their runs, the run that is shown, and what explains it
 written. The status is that of the text. It is 0 where objects were compared, none differed, and all was met that must be.
 """
 
+import copy
+import json
 import os
 import sys
 from collections import Counter
@@ -151,12 +154,89 @@ def compare(chosen, pool):
     return differing + missed + (not met['compared'])
 
 
+# ---- values that are changed
+
+# So many scripts have each value of their objects changed.
+BROKEN = 12
+# What nothing of the text tells, and isn't there twice: how many states a check visits, the choices of a group, and the lines where a run ends that isn't
+# explained.
+UNTOLD = (('outcomes', 'states'), ('groups', 'leaves', 'choices'),
+          *((*report, 'ending', ends, 'line') for report in (('leaves', 'leaves'), ('groups', 'leaves'), ('outcomes', 'outcomes')) for ends in ('calls', 'traps')))
+
+
+def values_in(told, path=()):
+    """The way to each value of an object that is a number, a text, or yes or no."""
+    if isinstance(told, (dict, list)):
+        for key, one in told.items() if isinstance(told, dict) else enumerate(told):
+            yield from values_in(one, (*path, key))
+    elif told is not None:
+        yield path
+
+
+def with_changed(told, path):
+    """The object with another value at the end of a way."""
+    told = copy.deepcopy(told)
+    *way, last = path
+    at = told
+    for key in way:
+        at = at[key]
+    at[last] = not at[last] if isinstance(at[last], bool) else at[last] + (1 if isinstance(at[last], int) else 'x')
+    return told
+
+
+def is_noticed(case, tests, result, wanted):
+    """Whether tests find something wrong with objects."""
+    try:
+        return tests(case, result, wanted) is not None
+    except (NoReport, KeyError, ValueError, IndexError, TypeError):
+        return True
+
+
+def not_noticed(case, tests, result, wanted):
+    """The keys of values of a case that can be changed, and nobody notices."""
+    objects = read_objects(result.output)
+    for place, told in enumerate(objects):
+        for path in values_in(told):
+            changed = [*objects[:place], with_changed(told, path), *objects[place + 1:]]
+            output = ''.join(f'{json.dumps(one)}\n' for one in changed).encode()
+            keys = told['report'], *(key for key in path if isinstance(key, str))
+            if keys not in UNTOLD and not is_noticed(case, tests, result._replace(output=output), wanted):
+                yield '.'.join(keys)
+
+
+def broken_chunk(chosen, numbers):
+    """What of some scripts nobody notices, and how many values were changed."""
+    found, changed = [], 0
+    for number in numbers:
+        with steps_remembered(), states_remembered():
+            for case, tests in all_cases(chosen.seed, number):
+                wanted = case.wanted()
+                result, words = said(chosen, case.words)
+                if not any(word in NO_JSON for word in words) and wanted.output:
+                    found += not_noticed(case, tests, result, wanted)
+                    changed += sum(1 for told in read_objects(result.output) for _ in values_in(told))
+    return found, changed
+
+
+def compare_broken(chosen, pool):
+    """How many values can be changed unnoticed."""
+    told = Counter()
+    changed = 0
+    for found, count in pool.map(broken_chunk, [chosen] * BROKEN, [[number] for number in range(BROKEN)]):
+        told.update(found)
+        changed += count
+    for keys, count in told.items():
+        print(f'{count} changes of {keys} were not noticed')
+    print(f'{changed} values changed, {sum(told.values())} not noticed')
+    return sum(told.values()) + (not changed)
+
+
 def main():
     parser = driving.parser_of(__doc__, 'scripts of each kind', 200)
     chosen = driving.chosen_by(parser)
     if not chosen.program:
         parser.error('PROGRAM is wanted')
-    sys.exit(driving.driven(chosen, compare, lambda chosen, pool: 0))
+    sys.exit(driving.driven(chosen, compare, compare_broken))
 
 
 if __name__ == '__main__':
