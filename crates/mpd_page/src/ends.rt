@@ -10,7 +10,7 @@ ghost use Rattle.mpd_explore.specs.ReportText.{ending_text};
 ghost use Rattle.mpd_outcomes.specs.Goals.{meets};
 ghost use Rattle.mpd_outcomes.specs.declared.report.Goal.TheVariants.{Bad};
 
-use crate::json::{add_text, push_lines, push_member, push_quoted};
+use crate::json::{add, add_text, push_lines, push_member, push_quoted};
 use mpd_blame::{Blame, PlacedBlame, blame_run, place_blame};
 use mpd_core::Core;
 use mpd_explain::{End, Loss, LossList, all_losses, end_of, push_end as push_told, push_losses};
@@ -246,21 +246,23 @@ fn push_depth(out: &mut String, blame: Blame) -> Result<(), AllocError>
     }
 }
 
-/// Adds where it was decided, in these words.
+/// Where it was decided, in these words.
 #[tactic(auto, unfolding(crate::specs::Ends::decided_text))]
-fn push_decided_text(out: &mut Vec<u8>, blame: Blame, words: &[u8]) -> Result<(), AllocError>
-    ensures { OnOk result (out.new.items ≡ out.old.items ++ spec.decided_text blame words.now) }
+fn decided_text(alloc: Global, blame: Blame, words: &[u8]) -> Result<Vec<u8>, AllocError>
+    ensures { IfOk result (λ t. t.items ≡ spec.decided_text blame words.now) }
 {
-    let mut head = String::new(*out.allocator());
+    let mut head = String::new(alloc);
     head.push_str(",\"decided\":[")?;
     push_depth(&mut head, blame)?;
     head.push_str(",")?;
-    add_text(out, &head)?;
-    push_quoted(out, words)?;
-    add_text(out, "]")
+    let mut text = Vec::new(alloc);
+    add_text(&mut text, &head)?;
+    push_quoted(&mut text, words)?;
+    add_text(&mut text, "]")?;
+    Ok(text)
 }
 
-/// The same, if it was looked for.
+/// Adds that, if it was looked for.
 fn push_decided(
     out: &mut Vec<u8>,
     decided: Option<PlacedBlame>,
@@ -270,7 +272,10 @@ fn push_decided(
 {
     match decided {
         None => Ok(()),
-        Some(placed) => push_decided_text(out, placed.blame, words),
+        Some(placed) => {
+            let text = decided_text(*out.allocator(), placed.blame, words)?;
+            add(out, &text)
+        }
     }
 }
 
