@@ -24,6 +24,24 @@ use Rattle.mpd_model.specs.contracts.step.Step as Step
 use Rattle.mpd_model.specs.contracts.breakpoint.Stop as Stop
 use Rattle.mpd_code.specs.contracts.node.Node as Node
 use Rattle.mpd_code.specs.contracts.code.Code as Code
+use Rattle.mpd_names.specs.contracts.place.PlacedCall as PlacedCall
+use Rattle.mpd_names.specs.contracts.place.Stands as Stands
+use Rattle.mpd_names.specs.contracts.holding.HoldingList as CellList
+use Rattle.mpd_explain.specs.contracts.near_miss.Wish as Wish
+use Rattle.mpd_explain.specs.contracts.ends.WishList as WishList
+use Rattle.mpd_explain.specs.contracts.ends.AbsenceList as AbsenceList
+use Rattle.mpd_explain.specs.contracts.ends.AwaitedRankList as AwaitedRankList
+use Rattle.mpd_explain.specs.contracts.ends.Wait as Wait
+use Rattle.mpd_explain.specs.contracts.ends.WaitList as WaitList
+use Rattle.mpd_explain.specs.contracts.ends.CycleList as CycleList
+use Rattle.mpd_explain.specs.contracts.ends.PlacedList as PlacedList
+use Rattle.mpd_explain.specs.contracts.ends.TrapPlace as TrapPlace
+use Rattle.mpd_explain.specs.contracts.ends.TrapPlaceList as TrapPlaceList
+use Rattle.mpd_explain.specs.contracts.ends.End as End
+use Rattle.mpd_explain.specs.contracts.lost.LossList as LossList
+use Rattle.mpd_explain.specs.contracts.steps.Completed as Completed
+use Rattle.mpd_explain.specs.contracts.steps.PlacedStep as PlacedStep
+use Rattle.mpd_explain.specs.contracts.steps.PlacedStepList as PlacedStepList
 use Rattle.mpd_session.specs.contracts.request.Request as Request
 use Rattle.mpd_session.specs.contracts.reply.TextList as TextList
 use Rattle.mpd_session.specs.contracts.reply.HoldingList as HoldingList
@@ -31,6 +49,8 @@ use Rattle.mpd_session.specs.contracts.reply.HandleList as HandleList
 use Rattle.mpd_session.specs.contracts.reply.IntegerList as IntegerList
 use Rattle.mpd_session.specs.contracts.reply.NumberList as NumberList
 use Rattle.mpd_session.specs.contracts.reply.PartnerList as PartnerList
+use Rattle.mpd_session.specs.contracts.reply.DeclList as DeclList
+use Rattle.mpd_session.specs.contracts.reply.Explained as Explained
 use Rattle.mpd_session.specs.contracts.reply.Answer as Answer
 use Rattle.mpd_session.specs.contracts.reply.Reply as Reply
 use Rattle.mpd_session.specs.contracts.history.Entry as Entry
@@ -109,8 +129,69 @@ step_send = search (sendable, crosses) depth 100 fits 20000
 stop_send : IsSend Stop.the_row
 stop_send = search (sendable, crosses) depth 100 fits 20000
 
+-- what is known of an end and of steps
+call_send : IsSend PlacedCall.the_row
+call_send = search (sendable, crosses) depth 100 fits 20000
+
+stands_send : IsSend Stands.the_row
+stands_send = search (call_send, sendable, crosses) depth 100 fits 20000
+
+cells_send : IsSend CellList.the_row
+cells_send = search (sendable, crosses) depth 100 fits 20000
+
+wish_send : IsSend Wish.the_row
+wish_send = search (call_send, sendable, crosses) depth 100 fits 20000
+
+wishes_send : IsSend WishList.the_row
+wishes_send = search (wish_send, sendable, crosses) depth 100 fits 20000
+
+absences_send : IsSend AbsenceList.the_row
+absences_send = search (stands_send, sendable, crosses) depth 100 fits 20000
+
+awaited_send : IsSend AwaitedRankList.the_row
+awaited_send = search (sendable, crosses) depth 100 fits 20000
+
+wait_send : IsSend Wait.the_row
+wait_send = declared_send (made.declared Wait.struct Wait.the_propositions) (search (wish_send, wishes_send, absences_send, awaited_send, sendable, crosses) depth 100 fits 50000)
+
+waits_send : IsSend WaitList.the_row
+waits_send = search (wait_send, sendable, crosses) depth 100 fits 20000
+
+cycles_send : IsSend CycleList.the_row
+cycles_send = search (sendable, crosses) depth 100 fits 20000
+
+calls_send : IsSend PlacedList.the_row
+calls_send = search (call_send, sendable, crosses) depth 100 fits 20000
+
+trap_send : IsSend TrapPlace.the_row
+trap_send = declared_send (made.declared TrapPlace.struct TrapPlace.the_propositions) (search (cells_send, sendable, crosses) depth 100 fits 50000)
+
+traps_send : IsSend TrapPlaceList.the_row
+traps_send = search (trap_send, sendable, crosses) depth 100 fits 20000
+
+end_send : IsSend End.the_row
+end_send = variants_send End.enum (search (waits_send, cycles_send, calls_send, traps_send, sendable, crosses) depth 100 fits 50000)
+
+losses_send : IsSend LossList.the_row
+losses_send = search (call_send, sendable, crosses) depth 100 fits 20000
+
+completed_send : IsSend Completed.the_row
+completed_send = search (call_send, sendable, crosses) depth 100 fits 20000
+
+placed_step_send : IsSend PlacedStep.the_row
+placed_step_send = variants_send PlacedStep.enum (search (call_send, completed_send, sendable, crosses) depth 100 fits 50000)
+
+steps_send : IsSend PlacedStepList.the_row
+steps_send = search (placed_step_send, sendable, crosses) depth 100 fits 20000
+
+decls_send : IsSend DeclList.the_row
+decls_send = search (sendable, crosses) depth 100 fits 20000
+
+explained_send : IsSend Explained.the_row
+explained_send = declared_send (made.declared Explained.struct Explained.the_propositions) (search (end_send, losses_send, decls_send, sendable, crosses) depth 100 fits 50000)
+
 answer_send : IsSend Answer.the_row
-answer_send = search (texts_send, holdings_send, handles_send, integers_send, numbers_send, partners_send, step_send, stop_send, sendable, crosses) depth 100 fits 50000
+answer_send = search (texts_send, holdings_send, handles_send, integers_send, numbers_send, partners_send, step_send, stop_send, steps_send, decls_send, explained_send, sendable, crosses) depth 100 fits 50000
 
 reply_send : IsSend Reply.the_row
 reply_send = variants_send Reply.enum (search (answer_send, sendable, crosses) depth 100 fits 50000)
