@@ -24,13 +24,14 @@ both_true false b h k = cc
 
 -- ---- lines
 
+one_by : (b : Bool) (l x : ℕ) (ls ms : List ℕ) → (l == x) ≡ b → is_one_of ms l ≡ true → (is_one_of ls x ≡ true → is_one_of ms x ≡ true) → is_one_of (l ∷ ls) x ≡ true → is_one_of ms x ≡ true
+one_by true l x ls ms e here rest k = let same : l ≡ x = grind (arith, nat_tests) in subst (λ z. is_one_of ms z ≡ true) same here
+one_by false l x ls ms e here rest k = rest (sym (ap (λ b. b || is_one_of ls x) e) ∙ k)
+
 one_through : (ls ms : List ℕ) (x : ℕ) → are_among ms ls ≡ true → is_one_of ls x ≡ true → is_one_of ms x ≡ true
 one_through [] ms x h k = cc
-one_through (l ∷ ls) ms x h k = one_by (l == x) refl
-  where
-    one_by : (b : Bool) → (l == x) ≡ b → is_one_of ms x ≡ true
-    one_by true e = let same : l ≡ x = grind (arith, nat_tests) in subst (λ z. is_one_of ms z ≡ true) same (both_first (is_one_of ms l) (are_among ms ls) h)
-    one_by false e = one_through ls ms x (both_second (is_one_of ms l) (are_among ms ls) h) (sym (ap (λ b. b || is_one_of ls x) e) ∙ k)
+one_through (l ∷ ls) ms x h k =
+    one_by (l == x) l x ls ms refl (both_first (is_one_of ms l) (are_among ms ls) h) (one_through ls ms x (both_second (is_one_of ms l) (are_among ms ls) h)) k
 
 among_through : (ms ls few : List ℕ) → are_among ms ls ≡ true → are_among ls few ≡ true → are_among ms few ≡ true
 among_through ms ls [] h k = refl
@@ -65,17 +66,18 @@ of_through (Some e) (Some f) (Some g) h k = cause_through e.cause f.cause g.caus
 
 -- ---- numbers
 
+or_right : (p q : Bool) → q ≡ true → p || q ≡ true
+or_right true q r = refl
+or_right false q r = r
+
+any_by : (ends : List LeafEnd) (a n x : ℕ) (xs : List ℕ) (b : Bool) → same_at ends n x ≡ b → same_at ends a n ≡ true → (list_any (same_at ends n) xs ≡ true → list_any (same_at ends a) xs ≡ true)
+    → list_any (same_at ends n) (x ∷ xs) ≡ true → list_any (same_at ends a) (x ∷ xs) ≡ true
+any_by ends a n x xs true e h rest k = ap (λ b. b || list_any (same_at ends a) xs) (of_through (slice_get ends a) (slice_get ends n) (slice_get ends x) h e)
+any_by ends a n x xs false e h rest k = or_right (same_at ends a x) (list_any (same_at ends a) xs) (rest (sym (ap (λ b. b || list_any (same_at ends n) xs) e) ∙ k))
+
 any_through : (ends : List LeafEnd) (a n : ℕ) (xs : List ℕ) → same_at ends a n ≡ true → list_any (same_at ends n) xs ≡ true → list_any (same_at ends a) xs ≡ true
 any_through ends a n [] h k = cc
-any_through ends a n (x ∷ xs) h k = by_first (same_at ends n x) refl
-  where
-    by_first : (b : Bool) → same_at ends n x ≡ b → list_any (same_at ends a) (x ∷ xs) ≡ true
-    by_first true e = ap (λ b. b || list_any (same_at ends a) xs) (of_through (slice_get ends a) (slice_get ends n) (slice_get ends x) h e)
-    by_first false e = or_right (same_at ends a x) (list_any (same_at ends a) xs) (any_through ends a n xs h (sym (ap (λ b. b || list_any (same_at ends n) xs) e) ∙ k))
-
-    or_right : (p q : Bool) → q ≡ true → p || q ≡ true
-    or_right true q r = refl
-    or_right false q r = r
+any_through ends a n (x ∷ xs) h k = any_by ends a n x xs (same_at ends n x) refl h (any_through ends a n xs h) k
 
 -- what the numbers found so far give is what all before give
 abbrev pub Finds : List LeafEnd → List ℕ → ℕ → Type 0
@@ -91,9 +93,15 @@ was_there : (b : Bool) → not b ≡ false → b ≡ true
 was_there true h = refl
 was_there false h = cc
 
-range_more : (k n : ℕ) → range_with_len k (n + 1) ≡ range_with_len k n ++ (k + n) ∷ []
+range_more : (k n : ℕ) → range_with_len k (suc n) ≡ range_with_len k n ++ (k + n) ∷ []
 range_more k zero = let same : k ≡ k + 0 = omega arith in ap (λ x. x ∷ []) same
 range_more k (suc n) = let same : (k + 1) + n ≡ k + suc n = omega arith in ap (λ xs. k ∷ xs) (range_more (k + 1) n ∙ ap (λ x. range_with_len (k + 1) n ++ x ∷ []) same)
+
+range_next : (n : ℕ) → range_with_len 0 (n + 1) ≡ range_with_len 0 n ++ n ∷ []
+range_next n =
+    let more : n + 1 ≡ suc n = omega arith in
+    let same : 0 + n ≡ n = omega arith in
+    ap (range_with_len 0) more ∙ range_more 0 n ∙ ap (λ x. range_with_len 0 n ++ x ∷ []) same
 
 -- one number more
 pub finds_more : (ends : List LeafEnd) (n : ℕ) (b : Bool) (numbers now : List ℕ) → Finds ends numbers n → b ≡ is_first ends n → now ≡ numbers ++ cond b (n ∷ []) [] → Finds ends now (n + 1)
@@ -104,4 +112,4 @@ finds_more ends n b numbers now finds test more = λ a.
     ap (list_any f) more ∙ list_any-append f numbers (cond b (n ∷ []) [])
     ∙ ap (λ t. t || list_any f (cond b (n ∷ []) [])) (finds a)
     ∙ step_by n f b (list_any f before) (same_at ends a n) refl known
-    ∙ sym (list_any-append f before (n ∷ [])) ∙ ap (list_any f) (sym (range_more 0 n))
+    ∙ sym (list_any-append f before (n ∷ [])) ∙ ap (list_any f) (sym (range_next n))
