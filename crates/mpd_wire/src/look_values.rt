@@ -1,13 +1,11 @@
 //! Answers to looks at the script, at all ranks and at steps as JSON.
 
-ghost use Rattle.std.specs.Prelude.{◌≡◌, ◌++◌, ◌∷◌, [], IfOk, List, Option, map, string_bytes, codes, true};
+ghost use Rattle.std.specs.Prelude.{◌≡◌, ◌++◌, ◌∷◌, [], IfOk, None, map, string_bytes, codes, true};
 ghost use Rattle.serde_json.specs.View.{view, members_view};
 ghost use Rattle.serde_json.specs.Data.{Data, Members, boolean, object, put, string};
-ghost use Rattle.mpd_model.specs.script.Declaration.{Declared};
 ghost use Rattle.mpd_model.specs.texts.Modes.{mode_word};
 ghost use Rattle.mpd_wire.specs.Replies.{natural, integer, or_null, call_or_null, coming_name, holding, placed, listed, members, maybe, is_ok, answer_fields};
 ghost use Rattle.mpd_session.specs.declared.reply.Answer.TheVariants as answer;
-ghost use Rattle.mpd_session.specs.declared.reply.Explained.{Explained};
 
 use crate::printer::{
     Fields, handles_value, integers_value, no_fields, object_of, texts_value, with_depth,
@@ -231,7 +229,7 @@ pub(crate) fn decided_value(
     outcome: &Option<Text>,
     words: &[String],
 ) -> Result<Value, AllocError>
-    ensures { (decls : List Declared) → IfOk result (λ v. view v ≡ object (members (answer_fields (map string_bytes words.now) (answer.Decided coming steps.now decls outcome.now) ++ (codes "version", natural version) ∷ []))) }
+    ensures { IfOk result (λ v. view v ≡ object (members (answer_fields (map string_bytes words.now) (answer.Decided coming steps.now [] outcome.now) ++ (codes "version", natural version) ∷ []))) }
 {
     let fields = decided_fields(alloc, coming, outcome);
     let fields = with_made(alloc, fields, "steps", step_values(alloc, steps));
@@ -277,7 +275,7 @@ pub(crate) fn explained_value(
     version: u64,
     words: &[String],
 ) -> Result<Value, AllocError>
-    ensures { (told : Option Explained) → IfOk result (λ v. view v ≡ object (members (answer_fields (map string_bytes words.now) (answer.Explained told) ++ (codes "version", natural version) ∷ []))) }
+    ensures { IfOk result (λ v. view v ≡ object (members (answer_fields (map string_bytes words.now) (answer.Explained None) ++ (codes "version", natural version) ∷ []))) }
 {
     let fields = with_flag(alloc, no_fields(alloc), "ok", true);
     let fields = with_made(alloc, fields, "told", texts_value(alloc, words));
