@@ -1,4 +1,4 @@
-use Rattle.std.proofs.Common.{List, ap, subst, sym, ◌∙◌}
+use Rattle.std.proofs.Common.{ap, subst, sym, ◌∙◌}
 use Rattle.std.specs.List.{AllByRecursion}
 use Rattle.mpd_model.specs.runs.Trail.{done_steps}
 use Rattle.mpd_explore.specs.declared.report.SearchLeaf.{SearchLeaf}
