@@ -1,5 +1,5 @@
 -- What is listed is what is answered; with nothing beside its leaves its text is that of a report.
-use Rattle.std.proofs.Common.{◌≡◌, ◌<◌, ℕ, Bool, List, [], length, map, Option, Some, slice_get, Result, Ok, Err, string_bytes, refl, sym, subst, ap, ap₂, ◌∙◌}
+use Rattle.std.proofs.Common.{◌≡◌, ◌<◌, ℕ, Bool, List, [], length, map, Option, Some, slice_get, Result, Ok, Err, string_bytes, refl, subst, ap, ap₂, ◌∙◌}
 use Rattle.mpd_model.specs.declared.call.Mode.{Mode}
 use Rattle.mpd_model.specs.declared.decision.Decision.{Decision}
 use Rattle.mpd_model.specs.script.Program.{Program}
@@ -28,7 +28,7 @@ use Rattle.mpd_check.specs.declared.listing.Listing.{Listing}
 use Rattle.mpd_check.specs.declared.listing.Telling.{Telling}
 use Rattle.mpd_check.specs.Refused.{refused_by}
 use Rattle.mpd_check.specs.Grouped.{shown_of}
-use Rattle.mpd_check.specs.Checked.{pieces_of, leaves_of, more_of, leaves_at, more_at, text_of, IsCrew, AreFew, Put}
+use Rattle.mpd_check.specs.Checked.{pieces_of, leaves_of, more_of, leaves_at, more_at, text_of, IsCrew, Put}
 use Rattle.mpd_check.specs.Listing.{IsListing, IsListed, IsPartListed, IsPlain, IsTextOf, PutListing, ListingAnswered, PartWritten, SampleAnswered, plain_part, sample_text, sample_leaves, sample_more}
 
 -- ---- where a debugger stands, and what it listed

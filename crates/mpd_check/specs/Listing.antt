@@ -1,6 +1,6 @@
 -- Reports by their leaves, all of them or those that end in the same way together, each with what is asked for beside it; and what is written
 -- of them. With nothing beside their leaves that is the text of a report.
-use Rattle.std.specs.Prelude.{◌≡◌, ◌<◌, ◌≤◌, ℕ, Bool, true, false, nat_lt, List, [], length, map, slice_get, Some, Result, Ok, Err, string_bytes}
+use Rattle.std.specs.Prelude.{◌≡◌, ◌<◌, ◌≤◌, ℕ, Bool, false, nat_lt, List, [], length, map, slice_get, Some, Result, Ok, Err, string_bytes}
 use Rattle.mpd_model.specs.declared.call.Mode.{Mode}
 use Rattle.mpd_model.specs.script.Program.{Program}
 use Rattle.mpd_model.specs.declared.decision.Decision.{Decision}

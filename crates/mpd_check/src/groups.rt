@@ -38,11 +38,7 @@ fn has_end(leaves: &[SearchLeaf], ending: &Ending) -> bool
 }
 
 /// Adds a leaf, unless one ends as it does.
-fn push_new(
-    alloc: Global,
-    found: &mut Vec<SearchLeaf>,
-    leaf: &SearchLeaf,
-) -> Result<(), AllocError>
+fn push_new(alloc: Global, found: &mut Vec<SearchLeaf>, leaf: &SearchLeaf) -> Result<(), AllocError>
     ensures { OnOk result (found.new.items ≡ found.old.items ++ (if has_end found.old.items leaf.now.ending then [] else leaf.now ∷ [])) }
 {
     if has_end(found, &leaf.ending) {

@@ -131,8 +131,14 @@ fn listing_of<S: Schedule>(
     ensures { IfOk result (IsListing S.decides telling.entry limits (standing_of debugger.old) report.leaves.items report.more) }
 {
     let tally = tally_of(&report);
-    let Shown { report, groups } =
-        shown_of(alloc, schedule, debugger, report, limits, telling.group)?;
+    let Shown { report, groups } = shown_of(
+        alloc,
+        schedule,
+        debugger,
+        report,
+        limits,
+        telling.group,
+    )?;
     let ends = ends_if(
         alloc,
         schedule,

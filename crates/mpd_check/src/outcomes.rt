@@ -200,11 +200,11 @@ fn text_of(
 ) -> Result<Vec<u8>, AllocError> {
     let mut out = String::new(alloc);
     let outcomes = &listing.outcomes;
-    let mut number = 0;
-    for (first, count) in outcomes.firsts.leaves.iter().zip(outcomes.counts.iter()) {
-        push_outcome(alloc, &mut out, number, first, *count)?;
+    for (number, first) in outcomes.firsts.leaves.iter().enumerate() {
+        let count = outcomes.counts.get(number).copied();
+        let count = count.unwrap_or(Count::Exactly(0));
+        push_outcome(alloc, &mut out, number, first, count)?;
         push_beside(&mut out, code, listing, number)?;
-        number += 1;
     }
     push_all(&mut out, outcomes)?;
     marked_if(alloc, plan.script, out, plan.explain)

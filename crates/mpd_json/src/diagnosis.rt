@@ -56,11 +56,7 @@ fn group_value(
 }
 
 /// Groups of ends, as a list.
-fn groups_value(
-    alloc: Global,
-    script: ToldScript<'_>,
-    runs: &Runs,
-) -> Result<Value, AllocError> {
+fn groups_value(alloc: Global, script: ToldScript<'_>, runs: &Runs) -> Result<Value, AllocError> {
     let mut values = Vec::new(alloc);
     for (place, group) in runs.groups.iter().enumerate() {
         let blame = runs.blames.get(place).copied().unwrap_or(None);
@@ -70,11 +66,7 @@ fn groups_value(
 }
 
 /// What is known of runs.
-fn runs_value(
-    alloc: Global,
-    script: ToldScript<'_>,
-    runs: &Runs,
-) -> Result<Value, AllocError> {
+fn runs_value(alloc: Global, script: ToldScript<'_>, runs: &Runs) -> Result<Value, AllocError> {
     Object::new(alloc)
         .with("counts", counts_value(alloc, runs.counts, "runs"))
         .flag("more", runs.counts.more)

@@ -97,11 +97,7 @@ fn awaited_value(alloc: Global, ranks: &[AwaitedRank]) -> Result<Value, AllocErr
 }
 
 /// What ranks wait in, as a list.
-fn waits_value(
-    alloc: Global,
-    script: ToldScript<'_>,
-    waits: &[Wait],
-) -> Result<Value, AllocError> {
+fn waits_value(alloc: Global, script: ToldScript<'_>, waits: &[Wait]) -> Result<Value, AllocError> {
     let mut values = Vec::new(alloc);
     for wait in waits {
         let requests = wishes_value(alloc, script, &wait.requests.items);

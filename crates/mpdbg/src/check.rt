@@ -3,16 +3,14 @@
 ghost use Rattle.std.specs.Prelude.{◌≡◌, ◌≤◌, if◌then◌else◌};
 ghost use Rattle.mpd_options.specs.Clashes.{wants_traps};
 
-use crate::check_json::{
-    drawn_as_json, least_as_json, mode_as_json, ways_as_json, whole_as_json,
-};
+use crate::check_json::{drawn_as_json, least_as_json, mode_as_json, ways_as_json, whole_as_json};
 use crate::progress::{OfPiece, Progress};
 use crate::summary::{Limit, Made, say_counts, say_least, say_part, say_states, say_tally};
 use crate::tell::Fault;
 use mpd_check::{
-    CheckFault, OutcomesFound, OutcomesPlan, SamplePlan, Tally, Telling, Tried, Wanted, check_listing, check_mode,
-    check_mode_outcomes, check_outcomes, check_piece, check_sample, check_search, count_pieces,
-    is_crew, put_least,
+    CheckFault, OutcomesFound, OutcomesPlan, SamplePlan, Tally, Telling, Tried, Wanted,
+    check_listing, check_mode, check_mode_outcomes, check_outcomes, check_piece, check_sample,
+    check_search, count_pieces, is_crew, put_least,
 };
 use mpd_code::{Code, Subject};
 use mpd_explore::{SearchLimits, Witnesses};

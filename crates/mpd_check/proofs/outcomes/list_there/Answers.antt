@@ -18,6 +18,6 @@ returns c =
     record {
       told = (c.in_ok-outcomes.ensures.last, c.in_ok-outcomes.ensures.stops, c.in_ok-outcomes.ensures.limit);
       witnesses = c.in_ok-outcomes.ensures.texts;
-      ends_are = c.in_ok-ends.ensures.ends ∙ ap (λ (d : Standing). ends_if wide_decision plan.explain plan.limits.fuel d leaves) (then ∙ at);
-      decided = subst (λ (d : Standing). AreDecided plan.explain plan.limits d leaves c.in_ok-blames.blames.items) at c.in_ok-blames.ensures.decided;
+      ends_are = c.in_ok-ends.ensures.ends ∙ ap (ends_if wide_decision plan.explain plan.limits.fuel (standing_of c.blames_if.new.debugger)) c.deref-2.ensures.value ∙ ap (λ (d : Standing). ends_if wide_decision plan.explain plan.limits.fuel d leaves) (then ∙ at);
+      decided = subst (λ (d : Standing). AreDecided plan.explain plan.limits d leaves c.in_ok-blames.blames.items) at (subst (λ (ls : List SearchLeaf). AreDecided plan.explain plan.limits (standing_of c.explore_outcomes.new.debugger) ls c.in_ok-blames.blames.items) c.deref.ensures.value c.in_ok-blames.ensures.decided);
     }
