@@ -1,6 +1,6 @@
 //! A script that is read again (docs/CONSOLE.md, "The script once more"): what is kept of a console, and the console that begins anew.
 
-ghost use Rattle.std.specs.Prelude.{◌≡◌, ◌++◌, ◌∷◌, [], IfOk, OnOk, None, flat_map, length, string_bytes};
+ghost use Rattle.std.specs.Prelude.{◌≡◌, ◌++◌, ◌∷◌, [], IfOk, OnOk, None, flat_map, length};
 ghost use Rattle.std.specs.List.{range_with_len};
 ghost use Rattle.mpd_model.specs.runs.Breakpoints.{break_at};
 ghost use Rattle.mpd_model.specs.runs.Trail.{done_steps};

@@ -129,16 +129,18 @@ fn watch_of(rank: usize, cells: Option<Named>) -> Option<Breakpoint>
 fn variable_of(cells: Option<Named>) -> Option<usize>
     ensures { result ≡ spec.variable_of cells }
 {
-    match cells {
-        Some(
-            Named {
-                kind: DeclKind::Variable,
-                declaration: _,
-                first,
-                cells: 1,
-            },
-        ) => Some(first),
-        _ => None,
+    let Some(named) = cells else {
+        return None;
+    };
+    match named.kind {
+        DeclKind::Handle => None,
+        DeclKind::Variable => {
+            if named.cells == 1 {
+                Some(named.first)
+            } else {
+                None
+            }
+        }
     }
 }
 
