@@ -53,24 +53,35 @@ LEFT_OUT = {
                          'a_deadlock_has_a_witness'), 'a law')},
     'mpd_pool': {'check': 'called by direct/public_searches.rattle', 'limits': 'takes no memory'},
     'mpd_blame': {
-        'blame_lines': 'called by check_outcomes', 'blame_of_leaf': 'called by blame_lines', **dict.fromkeys(('blame_run', 'push_blame'), BY_WORDS)},
+        'blames_of_leaves': 'called by check_outcomes', 'blame_of_leaf': 'called by blames_of_leaves', 'blame_run': BY_WORDS,
+        **dict.fromkeys(('other_message', 'place_blame'), 'takes no memory')},
+    'mpd_check': {
+        **dict.fromkeys(('list_search', 'put_listing'), 'called by check_listing'), 'list_sample': 'called by check_sample',
+        'list_outcomes': 'called by check_outcomes', 'outcomes_in': 'called by check_mode_outcomes',
+        **dict.fromkeys(('found_in', 'mode_tally'), 'takes no memory')},
     'mpd_outcomes': {
         'push_count': 'called by check', 'is_met': 'called by explore_outcomes',
         **dict.fromkeys(('enough_fuel_is_enough', 'same_futures_go_on_alike', 'same_futures_have_one_walk'), 'a law')},
     'mpd_runs': {
-        'a_run_or_a_bad_choice': 'a law', 'counts_told': 'called by check_outcomes', **dict.fromkeys(('is_count', 'sees_all'), 'takes no memory'),
+        'a_run_or_a_bad_choice': 'a law', 'copy_ending': 'called by list_search', 'counts_told': 'called by check_outcomes', **dict.fromkeys(('is_count', 'sees_all'), 'takes no memory'),
         **dict.fromkeys(('seek', 'numbered_run', 'last_choice', 'last_stop', 'name', 'push_runs', 'push_none', 'push_ahead', 'push_count', 'push_no_run',
                          'push_no_choice'), BY_WORDS)},
     'mpd_explain': {
-        'push_end': 'called by check_listing',
-        'calls_name_their_statements': 'a law',
-        **dict.fromkeys(('push_wish', 'push_helps', 'push_all_absent', 'push_told', 'requests', 'push_calls', 'push_enabled', 'push_history',
-                         'push_queues', 'push_ranks', 'push_standing', 'push_step', 'push_candidate', 'push_why', 'push_why_rank', 'push_why_ranks',
-                         'push_words', 'push_lost', 'push_all_lost', 'push_lost_told', 'lost_calls'), BY_WORDS)},
+        'push_end': 'called by check_listing', 'end_of': 'called by explain', 'wish_of': 'called by end_of',
+        **dict.fromkeys(('calls_name_their_statements', 'placed_steps_are_their_steps'), 'a law'),
+        **dict.fromkeys(('outcome_end', 'all_losses', 'push_losses'), 'called by the request explain'), 'losses': 'called by all_losses',
+        'placed_steps': 'called by the request decision', **dict.fromkeys(('copy_end', 'copy_losses', 'copy_steps'), 'called by a copy of a reply'),
+        **dict.fromkeys(('chooser', 'placed_step', 'same_end', 'same_losses', 'same_steps', 'tells_of'), 'takes no memory'),
+        **dict.fromkeys(('absences', 'enabled_steps', 'history_of', 'losses_of', 'lost_calls', 'pending_calls', 'position_of', 'posted_calls',
+                         'push_calls', 'push_candidate', 'push_enabled', 'push_history', 'push_position', 'push_queues', 'push_ranks', 'push_why',
+                         'push_why_rank', 'push_why_ranks', 'push_words', 'requests', 'why_of'), BY_WORDS)},
+    'mpd_json': dict.fromkeys(('diagnosis_json', 'least_json', 'listing_json', 'mode_json', 'outcomes_json'), 'called by the program with --json'),
     'mpd_session': dict.fromkeys(('debugger', 'breaks', 'last_hit', 'lay'), BY_WORDS),
     'mpd_diagnose': {
-        **dict.fromkeys(('full_command', 'ranks_line'), 'called by the program with --ranks'),
-        **dict.fromkeys(('closing_of', 'diagnose_mode', 'first_of', 'modes_up_to', 'worst_of'), 'called by the program with --modes')},
+        **dict.fromkeys(('full_command', 'push_verdict', 'ranks_line'), 'called by the program with --ranks'),
+        **dict.fromkeys(('closing_of', 'first_of', 'mode_line', 'modes_up_to', 'worst_of'), 'called by the program with --modes'),
+        **dict.fromkeys(('always_fails', 'always_hangs', 'always_traps', 'drawn_counts', 'ends_well', 'exceeds', 'fails_both', 'is_drawn', 'is_same',
+                         'never_fails', 'tries_modes'), 'takes no memory')},
     'mpd_picture': {**dict.fromkeys(('arrows_are_pairs', 'lanes_go_down', 'messages_go_down'), 'a law'), 'picture_of': 'called by draw'},
     'mpd_page': dict.fromkeys(('states_are_shown', 'texts_tell_changes', 'parents_come_first', 'data_has_no_markup'), 'a law'),
     'mpd_script': {'read_expression': BY_WORDS}, 'mpd_print': {'push_expr': BY_WORDS},
@@ -80,10 +91,12 @@ LEFT_OUT = {
         **dict.fromkeys(('keep', 'reopen', 'refused_again', 'take_named', 'ended_words', 'source_taken', 'source_refused'), BY_WORDS),
         **dict.fromkeys(('doing_of', 'evaluate', 'finish_rank', 'goto_command', 'known_for', 'lead_of', 'perform', 'sight_of', 'tell', 'tell_value'), BY_WORDS)},
     'mpd_names': {
-        'push_read': 'called by explain',
-        **dict.fromkeys(('is_blocked', 'can_wake', 'end_name', 'placed_call', 'stand', 'stands'), 'takes no memory'),
-        **dict.fromkeys(('find_named', 'issue_line', 'rank_line', 'push_issuer', 'push_placed', 'push_spaced', 'push_break', 'push_cell_name', 'push_list',
-                         'push_list_about', 'push_named', 'push_source', 'push_variables', 'push_end', 'push_end_places'), BY_WORDS)}}
+        'copy_holdings': 'called by copy_end',
+        **dict.fromkeys(('is_blocked', 'can_wake', 'end_name', 'named_cell', 'placed_call', 'same_call', 'same_holdings', 'same_stands', 'stand',
+                         'stands'), 'takes no memory'),
+        **dict.fromkeys(('find_named', 'held_in', 'holdings', 'issue_line', 'rank_line', 'push_spaced', 'push_break', 'push_cell_name',
+                         'push_holdings', 'push_list', 'push_list_about', 'push_named', 'push_source', 'push_variables', 'push_end',
+                         'push_end_places'), BY_WORDS)}}
 
 
 def text_of(path):
