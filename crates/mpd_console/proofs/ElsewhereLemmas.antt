@@ -1,6 +1,6 @@
 -- The cells that a name means are among those that a script has.
 use Rattle.std.proofs.Common.{◌≡◌, ℕ, ◌+◌, ◌<◌, ◌≤◌, Bool, true, false, if◌then◌else◌, List, [], ◌∷◌, Option, Some, None, Result, Ok, Err, slice_get, refl, sym, ap, subst, arith, cond}
-use Rattle.std.specs.Prelude.{nat_lt, take, drop}
+use Rattle.std.specs.Prelude.{nat_lt, take, drop, ⊤}
 use Rattle.std.proofs.lemmas.Bool.Decides.{nat_tests}
 use Rattle.mpd_model.specs.declared.limits.TheConstants.{CELLS_MAX, HANDLES_MAX}
 use Rattle.mpd_model.specs.script.Declaration.{Declared, cells_of, variables_in, handles_in}

@@ -7,4 +7,4 @@ use Rattle.mpd_console.proofs.again.places_again.Goals as goal
 pub loop-number-preserved : goal.loop-number-preserved
 loop-number-preserved c =
     given_more (λ n. place_again c.args.old.now.program.decls c.args.new.now.program (break_at c.args.breaks.now n) ∷ []) c.loop-number.number 64 c.loop-number.places.items _ _ c.loop-number-test.true c.loop-number.invariant
-    (c.in_ok-push.ensures.items ∙ ap (λ p. c.loop-number.places.items ++ p ∷ []) c.place.ensures)
+    (c.in_ok-push.ensures.items ∙ ap (λ p. c.loop-number.places.items ++ p ∷ []) c.place_again-place.ensures)
