@@ -19,7 +19,7 @@ pub drawn_of : (size : Size) (script : List ℕ) (s : Held) (d : DebuggerView) (
     → IsDrawn size script s told text
 drawn_of size script s d b z told ranks standing text split r e is =
     let there : text ≡ screen_text size script s.trail d.world (b ∷ z) ranks standing = is ∙ ap (λ t. screen_text size script t d.world told ranks standing) e ∙ ap (λ y. screen_text size script s.trail d.world y ranks standing) split in
-    subst (λ y. IsDrawn size script s y text) (sym split) (d.world, (ap world_of (sym e) ∙ r.world, (ranks, (standing, there))))
+    subst (λ y. IsDrawn size script s y text) (sym split) (d.world, ap world_of (sym e) ∙ r.world, (ranks, standing, there))
 
 pub ruleset drawing = (drawn_of_none, drawn_of)
 
