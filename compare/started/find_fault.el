@@ -4,7 +4,8 @@
 (find-file (nth 1 command-line-args-left))
 (setq command-line-args-left nil)
 (princ (format "%s; comments %s\n" major-mode comment-start))
-(let ((buffer (compilation-start compile-command)) (end (+ (float-time) 60)))
+;; All that it says comes at once, as it may where a machine has much to do.
+(let ((buffer (compilation-start (format "(%s) 2>&1 | (sleep 1; cat)" compile-command))) (end (+ (float-time) 60)))
   (while (and (get-buffer-process buffer) (< (float-time) end)) (accept-process-output nil 0.05))
   (condition-case nil
       (progn (next-error) (princ (format "fault of %s at line %s\n" (buffer-name) (line-number-at-pos))))

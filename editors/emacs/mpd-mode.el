@@ -19,7 +19,8 @@
   '((mpdbg-script "^script \\(.+\\)$" 1 nil nil 0)
     (mpdbg "^mpdbg: script refused [0-9]+ [^ ]+ at [0-9]+ line \\([0-9]+\\)$" nil 1 nil 2))
   "How `compile' finds the place of a fault: in which file, and at which line.")
-(dolist (it mpd-mode-faults)
+;; The rule that is added last is tried first: that of files, since a line of a fault takes the file that was found before it.
+(dolist (it (reverse mpd-mode-faults))
   (setf (alist-get (car it) compilation-error-regexp-alist-alist) (cdr it))
   (add-to-list 'compilation-error-regexp-alist (car it)))
 
