@@ -8,3 +8,4 @@ mod words;
 
 pub use back::{Blame, Decided, blame_run};
 pub use told::{Deciding, PlacedBlame, blame_of_leaf, blames_of_leaves, place_blame};
+pub use words::MarkedBlame;

@@ -4,28 +4,19 @@ use crate::back::Blame;
 use crate::told::{Deciding, PlacedBlame};
 use mpd_explain::PlacedStep;
 use mpd_model::CallKind;
-use mpd_names::PlacedCall;
+use mpd_names::{Issuer, MarkedCall, Marks, PlacedCall};
 use std::fmt;
-
-/// The rank of a call and its line, as `rank 1, line 5`.
-#[derive(Clone, Copy)]
-struct Issuer(PlacedCall);
-
-impl fmt::Display for Issuer {
-    fn fmt<W: fmt::Write>(&self, f: &mut fmt::Formatter<W>) -> fmt::Result {
-        write!(f, "rank {}, line {}", self.0.call.rank, self.0.line)
-    }
-}
 
 /// The rank of a send, and what it brings: its line, value and tag.
 #[derive(Clone, Copy)]
-struct Message(PlacedCall);
+struct Message<'s>(PlacedCall, Marks<'s>);
 
-impl fmt::Display for Message {
+impl<'s> fmt::Display for Message<'s> {
     fn fmt<W: fmt::Write>(&self, f: &mut fmt::Formatter<W>) -> fmt::Result {
-        let rank = self.0.call.rank;
-        let line = self.0.line;
-        match self.0.kind {
+        let Message(placed, marks) = *self;
+        let rank = placed.call.rank;
+        let line = marks.inner(placed.line);
+        match placed.kind {
             Some(CallKind::Send(send)) => write!(
                 f,
                 "rank {rank} (line {line}, value {}, tag {})",
@@ -38,53 +29,69 @@ impl fmt::Display for Message {
 
 /// What a step does.
 #[derive(Clone, Copy)]
-struct Deed(PlacedStep);
+struct Deed<'s>(PlacedStep, Marks<'s>);
 
-impl fmt::Display for Deed {
+impl<'s> fmt::Display for Deed<'s> {
     fn fmt<W: fmt::Write>(&self, f: &mut fmt::Formatter<W>) -> fmt::Result {
-        match self.0 {
-            PlacedStep::Local { rank, line } => write!(f, "rank {rank}, line {line}, goes on"),
+        let Deed(step, marks) = *self;
+        match step {
+            PlacedStep::Local { rank, line } => {
+                write!(f, "rank {rank}, line {}, goes on", marks.line(line))
+            }
             PlacedStep::Match { send, receive } => write!(
                 f,
                 "{}, takes the message of {}",
-                Issuer(receive),
-                Message(send)
+                Issuer(receive, marks),
+                Message(send, marks)
             ),
-            PlacedStep::Wake(call) => write!(f, "{}, goes on", Issuer(call)),
+            PlacedStep::Wake(call) => write!(f, "{}, goes on", Issuer(call, marks)),
             PlacedStep::WakeAny {
                 call,
                 index: _,
                 request: None,
-            } => write!(f, "{}, goes on", Issuer(call)),
+            } => write!(f, "{}, goes on", Issuer(call, marks)),
             PlacedStep::WakeAny {
                 call,
                 index: _,
                 request: Some(request),
-            } => write!(f, "{}, goes on by {}", Issuer(call), request.call),
+            } => {
+                let (rank, by) = (Issuer(call, marks), MarkedCall(request.call, marks));
+                write!(f, "{rank}, goes on by {by}")
+            }
             PlacedStep::Release => write!(f, "all ranks leave the barrier"),
         }
     }
 }
 
-impl fmt::Display for Deciding {
+/// The step that decided, and the other.
+#[derive(Clone, Copy)]
+struct Steps<'s>(Deciding, Marks<'s>);
+
+impl<'s> fmt::Display for Steps<'s> {
     fn fmt<W: fmt::Write>(&self, f: &mut fmt::Formatter<W>) -> fmt::Result {
-        write!(f, "{}; ", Deed(self.taken))?;
-        match self.other_message() {
-            Some(send) => write!(f, "with that of {}", Message(send))?,
-            None => write!(f, "if {} instead,", Deed(self.other))?,
+        let Steps(deciding, marks) = *self;
+        write!(f, "{}; ", Deed(deciding.taken, marks))?;
+        match deciding.other_message() {
+            Some(send) => write!(f, "with that of {}", Message(send, marks))?,
+            None => write!(f, "if {} instead,", Deed(deciding.other, marks))?,
         }
         write!(f, " it need not hang or trap")
     }
 }
 
-impl fmt::Display for PlacedBlame {
+/// Where it was decided how a run ends, as it is told of a script with these marks.
+#[derive(Clone, Copy)]
+pub struct MarkedBlame<'s>(pub PlacedBlame, pub Marks<'s>);
+
+impl<'s> fmt::Display for MarkedBlame<'s> {
     fn fmt<W: fmt::Write>(&self, f: &mut fmt::Formatter<W>) -> fmt::Result {
-        match self.blame {
+        let MarkedBlame(placed, marks) = *self;
+        match placed.blame {
             Blame::At(decided) => {
                 write!(f, "decided at depth {}: ", decided.depth)?;
-                match self.deciding {
+                match placed.deciding {
                     None => Ok(()),
-                    Some(deciding) => write!(f, "{deciding}"),
+                    Some(deciding) => write!(f, "{}", Steps(deciding, marks)),
                 }
             }
             Blame::FromStart => write!(f, "decided from the start: every run hangs or traps"),

@@ -1,5 +1,5 @@
 -- What a report tells of a script, counted, and the verdict of its check.
-use Rattle.std.specs.Prelude.{◌≡◌, ◌&&◌, ◌||◌, ◌==◌, nat_lt, not, if◌then◌else◌, Bool, true, false, List, length, count_by}
+use Rattle.std.specs.Prelude.{◌≡◌, ◌-◌, ◌&&◌, ◌||◌, ◌==◌, nat_lt, not, if◌then◌else◌, Bool, true, false, List, length, count_by}
 use Rattle.mpd_model.specs.declared.call.Mode.{Mode}
 use Rattle.mpd_model.specs.declared.outcome.Outcome.TheVariants as outcome
 use Rattle.mpd_model.specs.steps.World.{is_limited}
@@ -9,6 +9,8 @@ use Rattle.mpd_policy.specs.declared.ending.Ending.{Ending}
 use Rattle.mpd_policy.specs.declared.ending.Ending.TheVariants.{Ended}
 use Rattle.mpd_policy.specs.declared.ending.Ending.TheVariants as ends
 use Rattle.mpd_explore.specs.declared.report.SearchLeaf.{SearchLeaf}
+use Rattle.mpd_outcomes.specs.declared.report.Count.TheVariants.{Exactly}
+use Rattle.mpd_runs.specs.declared.counts.WayCounts.{WayCounts}
 use Rattle.mpd_lines.specs.declared.verdict.Verdict.{Verdict}
 use Rattle.mpd_lines.specs.declared.verdict.Verdict.TheVariants.{Good, Bad, NotWhole}
 use Rattle.mpd_check.specs.declared.counts.Kind.{Kind}
@@ -33,6 +35,18 @@ tally_of leaves more = record {
   traps = count_by (is_of Trap) leaves;
   cut = count_by (is_of Cut) leaves;
   more = more;
+}
+
+-- how many of its runs end in each way: those that are done are none of the others
+abbrev pub ways_of : Tally → WayCounts
+ways_of t = record {
+  done = Exactly ((((t.runs - t.leftovers) - t.deadlocks) - t.traps) - t.cut);
+  leftovers = Exactly t.leftovers;
+  deadlock = Exactly t.deadlocks;
+  trap = Exactly t.traps;
+  cut = Exactly t.cut;
+  total = Exactly t.runs;
+  more = t.more;
 }
 
 -- a deadlock or a trap is listed

@@ -2,12 +2,14 @@
 
 ghost use Rattle.std.specs.Prelude.{◌≡◌, ◌<◌, Bool, false, length, count_by};
 ghost use Rattle.std.specs.Bool.{Decides};
-ghost use Rattle.mpd_check.specs.Tally.{tally_of, is_of, is_bad, is_whole, LeavesOutNone, TellsAll, verdict_of};
+ghost use Rattle.mpd_check.specs.Tally.{tally_of, ways_of, is_of, is_bad, is_whole, LeavesOutNone, TellsAll, verdict_of};
 
 use mpd_code::Subject;
 use mpd_explore::{Ending, SearchLeaf, SearchReport};
 use mpd_lines::Verdict;
 use mpd_model::{Mode, Outcome};
+use mpd_outcomes::Count;
+use mpd_runs::WayCounts;
 
 /// How a run ends, as far as it is counted.
 #[derive(Clone, Copy)]
@@ -41,6 +43,28 @@ impl Tally {
         ensures { result ≡ is_bad self }
     {
         self.deadlocks > 0 || self.traps > 0
+    }
+
+    /// How many of the runs that the report lists end in each way: those that are done are the
+    /// others.
+    pub fn ways(self) -> WayCounts
+        ensures { result ≡ ways_of self }
+    {
+        let done = self
+            .runs
+            .saturating_sub(self.leftovers)
+            .saturating_sub(self.deadlocks)
+            .saturating_sub(self.traps)
+            .saturating_sub(self.cut);
+        WayCounts {
+            done: Count::Exactly(done as u64),
+            leftovers: Count::Exactly(self.leftovers as u64),
+            deadlock: Count::Exactly(self.deadlocks as u64),
+            trap: Count::Exactly(self.traps as u64),
+            cut: Count::Exactly(self.cut as u64),
+            total: Count::Exactly(self.runs as u64),
+            more: self.more,
+        }
     }
 
     /// Bad if the report lists a deadlock or a trap, else good.

@@ -14,13 +14,14 @@ ghost use Rattle.mpd_check.specs.Outcomes.{found_in, AreDecided, AreOutcomes, Is
 use crate::counts::{Tally, tally_of};
 use crate::listing::ends_if;
 use crate::modes::{Listed, line_of};
-use crate::print::{marked_if, push_witness};
-use mpd_blame::{PlacedBlame, blames_of_leaves};
+use crate::print::push_witness;
+use mpd_blame::{MarkedBlame, PlacedBlame, blames_of_leaves};
 use mpd_code::{Code, Subject};
 use mpd_explain::{End, push_end};
 use mpd_explore::{SearchLeaf, push_leaf_text};
 use mpd_lines::{EngineFault, write_all};
 use mpd_model::{STEPS_MAX, Sink};
+use mpd_names::Marks;
 use mpd_outcomes::{Count, Outcomes, StateLimits, explore_outcomes, push_count};
 use mpd_policy::Wide;
 use mpd_runs::{WayCounts, counts_told};
@@ -169,15 +170,16 @@ fn push_outcome(
 fn push_beside(
     out: &mut String,
     code: &Code,
+    marks: Marks<'_>,
     listing: &OutcomesListing,
     number: usize,
 ) -> Result<(), AllocError> {
     push_witness(out, &listing.outcomes.firsts.witnesses, number, number)?;
     if let Some(end) = listing.ends.get(number) {
-        push_end(out, code.decls(), end)?;
+        push_end(out, code.decls(), marks, end)?;
     }
     if let Some(Some(blame)) = listing.blames.get(number) {
-        write!(out, "  {blame}\n")?;
+        write!(out, "  {}\n", MarkedBlame(*blame, marks))?;
     }
     Ok(())
 }
@@ -197,17 +199,20 @@ fn text_of(
     code: &Code,
     plan: OutcomesPlan<'_>,
     listing: &OutcomesListing,
-) -> Result<Vec<u8>, AllocError> {
+) -> Result<String, AllocError> {
+    let marks = Marks {
+        script: plan.script,
+    };
     let mut out = String::new(alloc);
     let outcomes = &listing.outcomes;
     for (number, first) in outcomes.firsts.leaves.iter().enumerate() {
         let count = outcomes.counts.get(number).copied();
         let count = count.unwrap_or(Count::Exactly(0));
         push_outcome(alloc, &mut out, number, first, count)?;
-        push_beside(&mut out, code, listing, number)?;
+        push_beside(&mut out, code, marks, listing, number)?;
     }
     push_all(&mut out, outcomes)?;
-    marked_if(alloc, plan.script, out, plan.explain)
+    Ok(out)
 }
 
 /// Looks for the ways to end from a script's start, and makes their text.
@@ -221,6 +226,7 @@ fn tell(
 {
     let listing = list_outcomes(alloc, subject, plan)?;
     let text = text_of(alloc, subject.code, plan, &listing)?;
+    let text = text.into_bytes();
     let found = found_in(&listing.outcomes);
     Ok(ToldOutcomes { text, found })
 }

@@ -13,8 +13,8 @@ use mpd_code::Code;
 use mpd_explain::push_end;
 use mpd_explore::{Ending, SearchLeaf, print_search, push_leaf_text};
 use mpd_lines::EngineFault;
-use mpd_marks::push_marked;
 use mpd_model::{Sink, print_outcome};
+use mpd_names::Marks;
 use std::alloc::{AllocError, Global};
 
 /// Adds how a run ends, as its line has it.
@@ -67,32 +67,22 @@ pub(crate) fn push_witness(
 }
 
 /// A listing with what stands beside its leaves, as text.
-fn explained_text(alloc: Global, code: &Code, listing: &Listing) -> Result<String, AllocError> {
+fn explained_text(
+    alloc: Global,
+    code: &Code,
+    marks: Marks<'_>,
+    listing: &Listing,
+) -> Result<String, AllocError> {
     let mut out = String::new(alloc);
     for (place, leaf) in listing.shown.leaves.iter().enumerate() {
         let number = push_head(alloc, &mut out, listing, place, leaf)?;
         push_witness(&mut out, &listing.shown.witnesses, place, number)?;
         if let Some(end) = listing.ends.get(place) {
-            push_end(&mut out, code.decls(), end)?;
+            push_end(&mut out, code.decls(), marks, end)?;
         }
     }
     let more = if listing.tally.more { "yes" } else { "no" };
     write!(out, "leaves {} more {more}\n", listing.tally.runs)?;
-    Ok(out)
-}
-
-/// A text with the places of marks of the script beside lines, if something is explained.
-pub(crate) fn marked_if(
-    alloc: Global,
-    script: &[u8],
-    text: String,
-    explain: bool,
-) -> Result<Vec<u8>, AllocError> {
-    if !explain {
-        return Ok(text.into_bytes());
-    }
-    let mut out = Vec::new(alloc);
-    push_marked(&mut out, script, text.as_bytes())?;
     Ok(out)
 }
 
@@ -116,8 +106,11 @@ fn text_of(
     if !telling.explain && !telling.group {
         return plain_text(alloc, listing);
     }
-    let text = explained_text(alloc, code, listing)?;
-    marked_if(alloc, telling.script, text, telling.explain)
+    let marks = Marks {
+        script: telling.script,
+    };
+    let text = explained_text(alloc, code, marks, listing)?;
+    Ok(text.into_bytes())
 }
 
 /// Writes a listing, and returns what it tells. `WriteFailed` (46) comes only if a write failed,

@@ -7,6 +7,7 @@ ghost use Rattle.mpd_diagnose.specs.Groups as spec;
 
 use crate::along::LeafEnd;
 use crate::cause::EndKind;
+use mpd_explain::push_if;
 use mpd_outcomes::Count;
 use std::alloc::{AllocError, Global};
 
@@ -29,16 +30,6 @@ fn same_at(ends: &[LeafEnd], one: usize, other: usize) -> bool
         (Some(one), Some(other)) => one.cause.is_same(&other.cause),
         _ => false,
     }
-}
-
-/// Adds a number, if it is chosen.
-fn push_if(numbers: &mut Vec<usize>, number: usize, is_chosen: bool) -> Result<(), AllocError>
-    ensures { OnOk result (numbers.new.items ≡ numbers.old.items ++ (if is_chosen then number ∷ [] else [])) }
-{
-    if is_chosen {
-        numbers.push(number)?;
-    }
-    Ok(())
 }
 
 /// Whether the end of a number is as that of one of some numbers.

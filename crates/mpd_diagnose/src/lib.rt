@@ -20,7 +20,7 @@ pub use commands::full_command;
 pub use diagnosis::{Diagnosis, DiagnosisPlan, Runs, diagnose};
 pub use groups::Group;
 pub use modes::{ScriptInModes, closing_of, first_of, modes_up_to, worst_of};
-pub use told::{diagnosis_text, push_verdict};
+pub use told::{diagnosis_text, push_verdict, verdict_text};
 pub use verdict::{
     always_fails, always_hangs, always_traps, drawn_counts, draws, ends_well, fails_both, leaves,
     verdict_of,

@@ -9,12 +9,12 @@ use crate::verdict::{
     always_fails, always_hangs, always_traps, ends_well, fails_both, is_drawn, tries_modes,
 };
 use crate::words::Named;
-use mpd_blame::{Blame, PlacedBlame};
+use mpd_blame::{Blame, MarkedBlame, PlacedBlame};
 use mpd_explain::push_end;
 use mpd_explore::SearchLeaf;
 use mpd_lines::push_folded;
-use mpd_marks::push_marked;
 use mpd_model::Mode;
+use mpd_names::Marks;
 use mpd_outcomes::Count;
 use mpd_runs::{WayCounts, is_count, sees_all};
 use std::alloc::{AllocError, Global};
@@ -274,18 +274,19 @@ fn push_bad(out: &mut String, mode: Mode, counts: WayCounts) -> Result<(), Alloc
     }
 }
 
-/// What becomes of the runs in a mode, which have so many steps at most, as was found by coming to
-/// so many states.
-fn verdict_text(
+/// What becomes of the runs in a mode that a diagnosis was come to, which have so many steps at
+/// most: a line for each thing that is said. `Err` means that memory was refused.
+pub fn verdict_text(
     alloc: Global,
     mode: Mode,
-    counts: WayCounts,
     fuel: usize,
-    states: usize,
+    diagnosis: &Diagnosis,
 ) -> Result<String, AllocError> {
+    let found = &diagnosis.found;
+    let counts = found.counts;
     let mut out = String::new(alloc);
     push_bad(&mut out, mode, counts)?;
-    push_well_line(&mut out, mode, counts, states)?;
+    push_well_line(&mut out, mode, counts, found.outcomes.visited)?;
     push_left(&mut out, counts)?;
     push_untried(alloc, &mut out, counts, fuel)?;
     Ok(out)
@@ -302,14 +303,14 @@ fn push_of_one(out: &mut String, count: Count) -> Result<(), AllocError> {
 }
 
 /// Adds the lines at which an end stands.
-fn push_lines(out: &mut String, lines: &[usize]) -> Result<(), AllocError> {
+fn push_lines(out: &mut String, marks: Marks<'_>, lines: &[usize]) -> Result<(), AllocError> {
     match lines {
         [] => Ok(()),
-        [line] => write!(out, " line {line}"),
+        [line] => write!(out, " line {}", marks.line(*line)),
         [line, further @ ..] => {
-            write!(out, " lines {line}")?;
+            write!(out, " lines {}", marks.line(*line))?;
             for line in further {
-                write!(out, ", {line}")?;
+                write!(out, ", {}", marks.line(*line))?;
             }
             Ok(())
         }
@@ -317,7 +318,7 @@ fn push_lines(out: &mut String, lines: &[usize]) -> Result<(), AllocError> {
 }
 
 /// Adds what kind of end it is, and where it stands.
-fn push_cause(out: &mut String, cause: &Cause) -> Result<(), AllocError> {
+fn push_cause(out: &mut String, marks: Marks<'_>, cause: &Cause) -> Result<(), AllocError> {
     out.push_str(match cause.kind {
         EndKind::Done => "done",
         EndKind::Leftovers => "left over from",
@@ -325,15 +326,19 @@ fn push_cause(out: &mut String, cause: &Cause) -> Result<(), AllocError> {
         EndKind::Trap => "trap at",
         EndKind::Cut => "cut at",
     })?;
-    push_lines(out, &cause.lines.items)
+    push_lines(out, marks, &cause.lines.items)
 }
 
 /// Adds where it was decided how the run ends, and what to type to come to that step.
-fn push_blame(out: &mut String, blame: Option<PlacedBlame>) -> Result<(), AllocError> {
+fn push_blame(
+    out: &mut String,
+    marks: Marks<'_>,
+    blame: Option<PlacedBlame>,
+) -> Result<(), AllocError> {
     let Some(placed) = blame else {
         return Ok(());
     };
-    write!(out, "  {placed}\n")?;
+    write!(out, "  {}\n", MarkedBlame(placed, marks))?;
     match placed.blame {
         Blame::At(_) => out.push_str(
             "  at the prompt of `debug`, `blame` goes to this step and `redo all` to the end\n",
@@ -352,14 +357,17 @@ fn group_said(
     end: &LeafEnd,
     blame: Option<PlacedBlame>,
 ) -> Result<String, AllocError> {
+    let marks = Marks {
+        script: named.script,
+    };
     let mut out = String::new(alloc);
-    push_cause(&mut out, &end.cause)?;
+    push_cause(&mut out, marks, &end.cause)?;
     out.push_str(": ")?;
     push_share(&mut out, group.count, runs.counts.total, runs.counts.more)?;
     push_of_one(&mut out, group.count)?;
     out.push('\n')?;
-    push_end(&mut out, named.decls, &end.end)?;
-    push_blame(&mut out, blame)?;
+    push_end(&mut out, named.decls, marks, &end.end)?;
+    push_blame(&mut out, marks, blame)?;
     Ok(out)
 }
 
@@ -379,19 +387,6 @@ fn picture_of(
     })
 }
 
-/// Adds a text with the places of marks of the script beside lines. A long line goes on in further
-/// lines.
-fn push_folded_marked(
-    alloc: Global,
-    out: &mut Vec<u8>,
-    script: &[u8],
-    told: &str,
-) -> Result<(), AllocError> {
-    let mut text = Vec::new(alloc);
-    push_marked(&mut text, script, told.as_bytes())?;
-    push_folded(out, &text)
-}
-
 /// Adds what is told of ends together, and the commands that go to one of them, of which this is
 /// the picture.
 fn push_group(
@@ -403,7 +398,7 @@ fn push_group(
     picture: &Picture,
 ) -> Result<(), AllocError> {
     out.push(b'\n')?;
-    push_folded_marked(alloc, out, named.script, said)?;
+    push_folded(out, said.as_bytes())?;
     push_run(alloc, out, named, choices, picture)?;
     Ok(())
 }
@@ -456,8 +451,8 @@ fn next_command(alloc: Global, named: Named<'_>, counts: WayCounts) -> Result<Ve
     others_command(alloc, counts.more && !ends_well(counts), named)
 }
 
-/// Adds what becomes of the runs in a mode that a diagnosis was come to, which have so many steps
-/// at most; long lines go on in further lines. `Err` means that memory was refused.
+/// Adds the same as lines of 80 columns: long ones go on in further lines. `Err` means that memory
+/// was refused.
 pub fn push_verdict(
     alloc: Global,
     out: &mut Vec<u8>,
@@ -465,27 +460,22 @@ pub fn push_verdict(
     fuel: usize,
     diagnosis: &Diagnosis,
 ) -> Result<(), AllocError> {
-    let found = &diagnosis.found;
-    let visited = found.outcomes.visited;
-    let verdict = verdict_text(alloc, mode, found.counts, fuel, visited)?;
+    let verdict = verdict_text(alloc, mode, fuel, diagnosis)?;
     push_folded(out, verdict.as_bytes())
 }
 
-/// Adds what becomes of the runs, which have so many steps at most, as was found by coming to so
-/// many states; and the command that is tried next.
+/// Adds what becomes of the runs, which have so many steps at most, and the command that is tried
+/// next.
 fn push_opening(
     alloc: Global,
     out: &mut Vec<u8>,
     named: Named<'_>,
-    counts: WayCounts,
     fuel: usize,
-    states: usize,
+    diagnosis: &Diagnosis,
 ) -> Result<(), AllocError> {
-    let verdict = verdict_text(alloc, named.mode, counts, fuel, states)?;
-    let next = next_command(alloc, named, counts)?;
-    push_folded(out, verdict.as_bytes())?;
-    out.extend_from_slice(&next)?;
-    Ok(())
+    push_verdict(alloc, out, named.mode, fuel, diagnosis)?;
+    let next = next_command(alloc, named, diagnosis.found.counts)?;
+    out.extend_from_slice(&next)
 }
 
 // ---- runs that are drawn
@@ -563,14 +553,7 @@ pub fn diagnosis_text(
 ) -> Result<Vec<u8>, AllocError> {
     let found = &diagnosis.found;
     let mut out = Vec::new(alloc);
-    push_opening(
-        alloc,
-        &mut out,
-        named,
-        found.counts,
-        fuel,
-        found.outcomes.visited,
-    )?;
+    push_opening(alloc, &mut out, named, fuel, diagnosis)?;
     push_groups(alloc, &mut out, named, found, "run")?;
     if let Some(drawn) = &diagnosis.drawn {
         let opening = drawn_opening(alloc, named, drawn.counts)?;

@@ -1,5 +1,5 @@
 -- How a run ends, with what is known of that end.
-use Rattle.std.specs.Prelude.{ℕ, Bool, true, false, if◌then◌else◌, List, [], map, slice_get, Option, Some, None}
+use Rattle.std.specs.Prelude.{ℕ, Bool, true, false, if◌then◌else◌, List, [], map, slice_get, None}
 use Rattle.mpd_model.specs.declared.step.CallId.{CallId}
 use Rattle.mpd_model.specs.declared.outcome.TrappedRank.{TrappedRank}
 use Rattle.mpd_model.specs.declared.outcome.Outcome.{Outcome}
@@ -12,7 +12,6 @@ use Rattle.mpd_names.specs.Stand.{stands_of, rank_ended}
 use Rattle.mpd_names.specs.Reads.{reads_of}
 use Rattle.mpd_policy.specs.declared.ending.Ending.{Ending}
 use Rattle.mpd_policy.specs.declared.ending.Ending.TheVariants.{Ended, Cut}
-use Rattle.mpd_explain.specs.declared.near_miss.Wish.{Wish}
 use Rattle.mpd_explain.specs.declared.ends.Absence.{Absence}
 use Rattle.mpd_explain.specs.declared.ends.AwaitedRank.{AwaitedRank}
 use Rattle.mpd_explain.specs.declared.ends.Wait.{Wait}

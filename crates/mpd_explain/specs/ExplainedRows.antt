@@ -16,6 +16,7 @@ use Rattle.mpd_model.specs.runs.Decisions.{decision}
 use Rattle.mpd_names.specs.declared.holding.Held.TheVariants.{Values}
 use Rattle.mpd_names.specs.declared.place.PlacedCall.{PlacedCall}
 use Rattle.mpd_names.specs.declared.place.Stands.TheVariants as at
+use Rattle.mpd_names.specs.Stand.{all_stands}
 use Rattle.mpd_policy.specs.Walk.{Run, walk}
 use Rattle.mpd_explain.specs.declared.near_miss.Miss.{Miss}
 use Rattle.mpd_explain.specs.declared.near_miss.Miss.TheVariants.{Tag}
@@ -209,3 +210,11 @@ row_round = refl
 
 pub row_cycle : map {B = Option (List ℕ)} (cycle next) (0 ∷ 1 ∷ 2 ∷ 3 ∷ 4 ∷ []) ≡ None ∷ Some (1 ∷ 3 ∷ 2 ∷ []) ∷ None ∷ None ∷ None ∷ []
 row_cycle = refl
+
+-- ---- where all ranks stand
+
+abbrev empty : Program
+empty = record stolen { body = []; lines = [] }
+
+pub row_all_stand : map (λ s. all_stands s (start s Rendezvous)) (stolen ∷ empty ∷ []) ≡ (at.At 4 ∷ at.At 4 ∷ []) ∷ (at.Ended ∷ at.Ended ∷ []) ∷ []
+row_all_stand = refl

@@ -1,5 +1,5 @@
 -- What each kind of call may wait for. A kind that joins joins the list below.
-use Rattle.std.specs.Prelude.{◌≡◌, ℕ, pos, Bool, true, false, map, List, [], ◌∷◌, ◌++◌, Option, Some, None, refl}
+use Rattle.std.specs.Prelude.{◌≡◌, pos, Bool, true, false, map, List, [], ◌∷◌, ◌++◌, Option, Some, None, refl}
 use Rattle.mpd_model.specs.declared.step.CallId.{CallId}
 use Rattle.mpd_model.specs.declared.call.Activity.TheVariants.{Blocked}
 use Rattle.mpd_model.specs.declared.call.CallKind.{CallKind}

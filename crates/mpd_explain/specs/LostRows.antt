@@ -10,7 +10,6 @@ use Rattle.mpd_model.specs.declared.stmt.Simple.TheVariants as st
 use Rattle.mpd_model.specs.script.Tree.{simple}
 use Rattle.mpd_model.specs.script.Program.{Program}
 use Rattle.mpd_model.specs.steps.World.{RankWorld, World, call_id}
-use Rattle.mpd_names.specs.declared.place.PlacedCall.{PlacedCall}
 use Rattle.mpd_explain.specs.declared.lost.Loss.{Loss}
 use Rattle.mpd_explain.specs.Lost.{is_lost, all_losses, losses}
 

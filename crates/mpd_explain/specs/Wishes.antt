@@ -1,5 +1,4 @@
 -- Calls that aren't matched, with what nearly fits them or would have.
-use Rattle.std.specs.Prelude.{List}
 use Rattle.std.specs.Option.{option_map}
 use Rattle.mpd_model.specs.declared.step.CallId.{CallId}
 use Rattle.mpd_model.specs.script.Program.{Program}

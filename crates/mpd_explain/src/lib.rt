@@ -31,6 +31,7 @@ pub use equal::{same_end, same_losses, same_steps};
 pub use explanation::{explain, explain_all};
 pub use history::history_of;
 pub use laws::{calls_name_their_statements, placed_steps_are_their_steps};
+pub use list::push_if;
 pub use look_words::{
     push_call, push_calls, push_enabled, push_history, push_position, push_queues, push_ranks,
     push_why, push_why_rank, push_why_ranks, push_words,
@@ -43,4 +44,4 @@ pub use request_calls::requests;
 pub use steps::{Completed, PlacedStep, PlacedStepList, enabled_steps, placed_step, placed_steps};
 pub use waits::Cycle;
 pub use why::{Chances, Fit, FitList, Partner, PartnerList, Why, why_of};
-pub use words::{WaitsFor, push_candidate, push_end, push_losses};
+pub use words::{MarkedStep, WaitsFor, push_candidate, push_end, push_losses};

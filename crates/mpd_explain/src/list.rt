@@ -4,12 +4,8 @@ ghost use Rattle.std.specs.Prelude.{◌≡◌, ◌++◌, [], ◌∷◌, if◌the
 
 use std::alloc::AllocError;
 
-/// Adds a number, if it is chosen.
-pub(crate) fn push_if(
-    numbers: &mut Vec<usize>,
-    number: usize,
-    is_chosen: bool,
-) -> Result<(), AllocError>
+/// Adds a number, if it is chosen. `Err` means that memory was refused.
+pub fn push_if(numbers: &mut Vec<usize>, number: usize, is_chosen: bool) -> Result<(), AllocError>
     ensures { OnOk result (numbers.new.items ≡ numbers.old.items ++ (if is_chosen then number ∷ [] else [])) }
 {
     if is_chosen {

@@ -7,7 +7,7 @@ use crate::near_miss::{Miss, Wish};
 use crate::steps::{Completed, PlacedStep};
 use crate::waits::Cycle;
 use mpd_model::{CallId, CallKind, Decl, DeclKind, is_barrier};
-use mpd_names::{PlacedCall, Stands, push_cell_name, push_holdings};
+use mpd_names::{Issuer, MarkedCall, Marks, PlacedCall, Stands, push_cell_name, push_holdings};
 use std::alloc::AllocError;
 use std::fmt;
 
@@ -67,31 +67,37 @@ impl fmt::Display for Miss {
 }
 
 /// The lines of what nearly fits a call, and of what would have.
-pub(crate) fn push_helps(out: &mut String, wish: &Wish) -> Result<(), AllocError> {
+pub(crate) fn push_helps(
+    out: &mut String,
+    marks: Marks<'_>,
+    wish: &Wish,
+) -> Result<(), AllocError> {
     if let Some(near) = wish.nearest {
-        write!(out, "    nearest miss: {}: {}\n", near.call, near.miss)?;
+        let call = MarkedCall(near.call, marks);
+        write!(out, "    nearest miss: {call}: {}\n", near.miss)?;
     }
     if let Some(taken) = wish.taken {
-        write!(
-            out,
-            "    the last that fits is taken: {}, by {}\n",
-            taken.call, taken.by
-        )?;
+        let (call, by) = (MarkedCall(taken.call, marks), MarkedCall(taken.by, marks));
+        write!(out, "    the last that fits is taken: {call}, by {by}\n")?;
     }
     Ok(())
 }
 
 /// The line of a rank that is not at a barrier.
-pub(crate) fn push_absence(out: &mut String, absence: &Absence) -> Result<(), AllocError> {
+pub(crate) fn push_absence(
+    out: &mut String,
+    marks: Marks<'_>,
+    absence: &Absence,
+) -> Result<(), AllocError> {
     write!(out, "    rank {} is not there: ", absence.rank)?;
     match absence.stands {
         None => write!(out, "it is none\n"),
         Some(Stands::Ended) => write!(out, "it has ended\n"),
         Some(Stands::At(line)) | Some(Stands::Trapped(line, _)) => {
-            write!(out, "it is at line {line}\n")
+            write!(out, "it is at line {}\n", marks.line(line))
         }
         Some(Stands::Waits(call)) | Some(Stands::CanGoOn(call)) => {
-            write!(out, "it waits at {call}\n")
+            write!(out, "it waits at {}\n", MarkedCall(call, marks))
         }
     }
 }
@@ -99,17 +105,22 @@ pub(crate) fn push_absence(out: &mut String, absence: &Absence) -> Result<(), Al
 // ---- ends
 
 /// The lines of a call that blocks its rank.
-fn push_wait(out: &mut String, wait: &Wait) -> Result<(), AllocError> {
-    let call = wait.wish.call;
-    let rank = call.call.rank;
-    write!(out, "  rank {rank} waits at {call}: {}\n", WaitsFor(call))?;
+fn push_wait(out: &mut String, marks: Marks<'_>, wait: &Wait) -> Result<(), AllocError> {
+    let rank = wait.wish.call.call.rank;
+    let call = MarkedCall(wait.wish.call, marks);
+    write!(
+        out,
+        "  rank {rank} waits at {call}: {}\n",
+        WaitsFor(wait.wish.call)
+    )?;
     for absence in &wait.absent.items {
-        push_absence(out, absence)?;
+        push_absence(out, marks, absence)?;
     }
-    push_helps(out, &wait.wish)?;
+    push_helps(out, marks, &wait.wish)?;
     for request in &wait.requests.items {
-        write!(out, "    {}: {}\n", request.call, WaitsFor(request.call))?;
-        push_helps(out, request)?;
+        let call = MarkedCall(request.call, marks);
+        write!(out, "    {call}: {}\n", WaitsFor(request.call))?;
+        push_helps(out, marks, request)?;
     }
     Ok(())
 }
@@ -156,20 +167,25 @@ fn push_cycle(out: &mut String, cycle: &Cycle) -> Result<(), AllocError> {
 }
 
 /// The lines of calls that are left over.
-fn push_left(out: &mut String, calls: &[PlacedCall]) -> Result<(), AllocError> {
+fn push_left(out: &mut String, marks: Marks<'_>, calls: &[PlacedCall]) -> Result<(), AllocError> {
     for call in calls {
-        write!(out, "  left over: {call}\n")?;
+        write!(out, "  left over: {}\n", MarkedCall(*call, marks))?;
     }
     Ok(())
 }
 
 /// The line of a rank that is trapped.
-fn push_trap(out: &mut String, decls: &[Decl], place: &TrapPlace) -> Result<(), AllocError> {
+fn push_trap(
+    out: &mut String,
+    decls: &[Decl],
+    marks: Marks<'_>,
+    place: &TrapPlace,
+) -> Result<(), AllocError> {
     let rank = place.rank;
+    let line = marks.line(place.line);
     write!(
         out,
-        "  rank {rank}, line {}: trap {}",
-        place.line,
+        "  rank {rank}, line {line}: trap {}",
         place.trap.name()
     )?;
     push_holdings(out, ", with ", decls, rank, &place.reads.items)?;
@@ -179,12 +195,13 @@ fn push_trap(out: &mut String, decls: &[Decl], place: &TrapPlace) -> Result<(), 
 /// The lines of a deadlock.
 fn push_deadlock(
     out: &mut String,
+    marks: Marks<'_>,
     waits: &[Wait],
     cycles: &[Cycle],
     left: &[PlacedCall],
 ) -> Result<(), AllocError> {
     for wait in waits {
-        push_wait(out, wait)?;
+        push_wait(out, marks, wait)?;
     }
     for wait in waits {
         push_waits_line(out, wait)?;
@@ -192,99 +209,107 @@ fn push_deadlock(
     for cycle in cycles {
         push_cycle(out, cycle)?;
     }
-    push_left(out, left)
+    push_left(out, marks, left)
 }
 
 /// Adds the lines of an end, each with two spaces before it; none of one that there is no more to
-/// than that a run ends so. `decls` are the declarations of the script. `Err` means that memory was
-/// refused.
-pub fn push_end(out: &mut String, decls: &[Decl], end: &End) -> Result<(), AllocError> {
+/// than that a run ends so. `decls` are the declarations of the script, `marks` its marks. `Err`
+/// means that memory was refused.
+pub fn push_end(
+    out: &mut String,
+    decls: &[Decl],
+    marks: Marks<'_>,
+    end: &End,
+) -> Result<(), AllocError> {
     match end {
         End::Cut | End::Done => Ok(()),
-        End::Leftovers(calls) => push_left(out, &calls.items),
+        End::Leftovers(calls) => push_left(out, marks, &calls.items),
         End::Deadlock {
             waits,
             cycles,
             left,
-        } => push_deadlock(out, &waits.items, &cycles.items, &left.items),
+        } => push_deadlock(out, marks, &waits.items, &cycles.items, &left.items),
         End::Trap(places) => {
             for place in &places.items {
-                push_trap(out, decls, place)?;
+                push_trap(out, decls, marks, place)?;
             }
             Ok(())
         }
     }
 }
 
+/// Adds the line of requests that a rank has lost.
+fn push_loss(out: &mut String, marks: Marks<'_>, loss: &Loss) -> Result<(), AllocError> {
+    let PlacedCall { call, line, kind } = loss.first;
+    let rank = call.rank;
+    if loss.count < 2 {
+        let call = MarkedCall(loss.first, marks);
+        return write!(out, "rank {rank} has lost a request: {call}\n");
+    }
+    let line = marks.line(line);
+    write!(
+        out,
+        "rank {rank} has lost {} requests of line {line}, the first {call}",
+        loss.count
+    )?;
+    if let Some(kind) = kind {
+        write!(out, " {kind}")?;
+    }
+    out.push('\n')
+}
+
 /// Adds a line for each line of the script of which a rank has lost requests. `Err` means that
 /// memory was refused.
-pub fn push_losses(out: &mut String, losses: &[Loss]) -> Result<(), AllocError> {
+pub fn push_losses(out: &mut String, marks: Marks<'_>, losses: &[Loss]) -> Result<(), AllocError> {
     for loss in losses {
-        let call = loss.first;
-        let rank = call.call.rank;
-        if loss.count < 2 {
-            write!(out, "rank {rank} has lost a request: {call}\n")?;
-        } else {
-            write!(
-                out,
-                "rank {rank} has lost {} requests of line {}, the first {}",
-                loss.count, call.line, call.call
-            )?;
-            if let Some(kind) = call.kind {
-                write!(out, " {kind}")?;
-            }
-            out.push('\n')?;
-        }
+        push_loss(out, marks, loss)?;
     }
     Ok(())
 }
 
 // ---- steps
 
-/// The rank of a call and its line, as `rank 1, line 5`.
+/// A step, and what it is about, as it is told of a script with these marks:
+/// `match 0.0 1.0: rank 0, line 4 (farm.c:58), to rank 1, line 7` (docs/CONSOLE.md, "Steps in
+/// words").
 #[derive(Clone, Copy)]
-struct Issuer(PlacedCall);
+pub struct MarkedStep<'s>(pub PlacedStep, pub Marks<'s>);
 
-impl fmt::Display for Issuer {
+impl<'s> fmt::Display for MarkedStep<'s> {
     fn fmt<W: fmt::Write>(&self, f: &mut fmt::Formatter<W>) -> fmt::Result {
-        write!(f, "rank {}, line {}", self.0.call.rank, self.0.line)
-    }
-}
-
-/// The step, and what it is about, as `match 0.0 1.0: rank 0, line 4, to rank 1, line 7`
-/// (docs/CONSOLE.md, "Steps in words").
-impl fmt::Display for PlacedStep {
-    fn fmt<W: fmt::Write>(&self, f: &mut fmt::Formatter<W>) -> fmt::Result {
-        let step = self.step();
-        match *self {
-            PlacedStep::Local { rank: _, line } => write!(f, "{step}: line {line}"),
-            PlacedStep::Match { send, receive } => {
-                write!(f, "{step}: {}, to {}", Issuer(send), Issuer(receive))
+        let MarkedStep(placed, marks) = *self;
+        let step = placed.step();
+        match placed {
+            PlacedStep::Local { rank: _, line } => {
+                write!(f, "{step}: line {}", marks.line(line))
             }
-            PlacedStep::Wake(call) => write!(f, "{step}: line {}", call.line),
+            PlacedStep::Match { send, receive } => {
+                let (send, receive) = (Issuer(send, marks), Issuer(receive, marks));
+                write!(f, "{step}: {send}, to {receive}")
+            }
+            PlacedStep::Wake(call) => write!(f, "{step}: line {}", marks.line(call.line)),
             PlacedStep::WakeAny {
                 call,
                 index: _,
                 request: None,
-            } => write!(f, "{step}: line {}", call.line),
+            } => write!(f, "{step}: line {}", marks.line(call.line)),
             PlacedStep::WakeAny {
                 call,
                 index: _,
                 request: Some(request),
-            } => write!(f, "{step}: line {}, by {}", call.line, request.call),
+            } => {
+                let (line, by) = (marks.line(call.line), MarkedCall(request.call, marks));
+                write!(f, "{step}: line {line}, by {by}")
+            }
             PlacedStep::Release => write!(f, "{step}: all ranks leave the barrier"),
         }
     }
 }
 
-/// ` of rank 1, line 5`: whose call it is, and its line.
-pub(crate) fn push_chooser(out: &mut String, call: PlacedCall) -> Result<(), AllocError> {
-    write!(out, " of {}", Issuer(call))
-}
-
 /// A message, and its receive unless that is told for all candidates.
 fn push_message(
     out: &mut String,
+    marks: Marks<'_>,
     is_one: bool,
     send: PlacedCall,
     receive: PlacedCall,
@@ -293,19 +318,21 @@ fn push_message(
     if let Some(CallKind::Send(sent)) = send.kind {
         write!(out, " sends {}, tag {}", sent.value, sent.tag)?;
     }
-    write!(out, " (line {})", send.line)?;
+    write!(out, " (line {})", marks.inner(send.line))?;
     if is_one {
         return Ok(());
     }
-    write!(
-        out,
-        ", to rank {} (line {})",
-        receive.call.rank, receive.line
-    )
+    let line = marks.inner(receive.line);
+    write!(out, ", to rank {} (line {line})", receive.call.rank)
 }
 
 /// A request that a waitany goes on by.
-fn push_completed(out: &mut String, decls: &[Decl], request: Completed) -> Result<(), AllocError> {
+fn push_completed(
+    out: &mut String,
+    decls: &[Decl],
+    marks: Marks<'_>,
+    request: Completed,
+) -> Result<(), AllocError> {
     out.push_str("request ")?;
     if let Some(handle) = request.handle {
         push_cell_name(out, decls, DeclKind::Handle, handle)?;
@@ -316,7 +343,11 @@ fn push_completed(out: &mut String, decls: &[Decl], request: Completed) -> Resul
         (Some(CallKind::Recv(_)), None) => ("receive", None),
         _ => ("call", None),
     };
-    write!(out, ", the {word} of line {}", request.call.line)?;
+    write!(
+        out,
+        ", the {word} of line {}",
+        marks.line(request.call.line)
+    )?;
     match value {
         None => Ok(()),
         Some(value) => write!(out, " (value {value})"),
@@ -327,18 +358,18 @@ fn push_completed(out: &mut String, decls: &[Decl], request: Completed) -> Resul
 fn push_told(
     out: &mut String,
     decls: &[Decl],
+    marks: Marks<'_>,
     is_one: bool,
     step: &PlacedStep,
 ) -> Result<(), AllocError> {
     match *step {
-        PlacedStep::Local { rank, line } => write!(out, "rank {rank} runs line {line}"),
-        PlacedStep::Match { send, receive } => push_message(out, is_one, send, receive),
+        PlacedStep::Local { rank, line } => {
+            write!(out, "rank {rank} runs line {}", marks.line(line))
+        }
+        PlacedStep::Match { send, receive } => push_message(out, marks, is_one, send, receive),
         PlacedStep::Wake(call) => {
-            write!(
-                out,
-                "rank {} goes on from line {}",
-                call.call.rank, call.line
-            )
+            let line = marks.line(call.line);
+            write!(out, "rank {} goes on from line {line}", call.call.rank)
         }
         PlacedStep::WakeAny {
             call,
@@ -346,7 +377,7 @@ fn push_told(
             request,
         } => {
             if let Some(request) = request {
-                push_completed(out, decls, request)?;
+                push_completed(out, decls, marks, request)?;
             }
             if is_one {
                 return Ok(());
@@ -359,13 +390,14 @@ fn push_told(
 
 /// Adds a step by what it does, and its trace word after that (docs/CONSOLE.md, "Candidates"). If
 /// it is one of candidates that are all for one call, that call isn't repeated. `decls` are the
-/// declarations of the script. `Err` means that memory was refused.
+/// declarations of the script, `marks` its marks. `Err` means that memory was refused.
 pub fn push_candidate(
     out: &mut String,
     decls: &[Decl],
+    marks: Marks<'_>,
     is_one: bool,
     step: &PlacedStep,
 ) -> Result<(), AllocError> {
-    push_told(out, decls, is_one, step)?;
+    push_told(out, decls, marks, is_one, step)?;
     write!(out, "; {}", step.step())
 }

@@ -5,3 +5,4 @@ pub mod SourceLemmas
 pub mod JoinLemmas
 pub mod PlacedLemmas
 pub mod EqualLemmas
+pub mod MarkLemmas

@@ -1,5 +1,5 @@
 -- A line of a text, behind so many others.
-use Rattle.std.proofs.Common.{◌≡◌, ℕ, zero, suc, ◌+◌, ◌-◌, ◌<◌, ◌≤◌, List, [], ◌∷◌, map, Option, Some, None, slice_get, refl, sym, ap, ◌∙◌, arith}
+use Rattle.std.proofs.Common.{◌≡◌, ℕ, zero, suc, ◌-◌, ◌<◌, ◌≤◌, List, [], ◌∷◌, map, Option, Some, None, slice_get, sym, ap, ◌∙◌, arith}
 use Rattle.mpd_model.specs.texts.Lines.{raw_lines, lines_of, bare}
 
 -- ---- walking

@@ -8,3 +8,5 @@ pub mod Reads
 pub mod Stand
 pub mod NameRows
 pub mod ReadRows
+pub mod Marks
+pub mod MarkRows

@@ -1,5 +1,7 @@
 -- Where ranks stand in a script.
-use Rattle.std.specs.Prelude.{ℕ, Bool, false, if◌then◌else◌, List, Option, Some, None, slice_get}
+use Rattle.std.specs.Prelude.{ℕ, Bool, false, if◌then◌else◌, List, length, Option, Some, None, slice_get}
+use Rattle.std.specs.List.{flat_map, range_with_len}
+use Rattle.std.specs.Option.{option_to_list}
 use Rattle.mpd_model.specs.declared.call.Activity.{Activity}
 use Rattle.mpd_model.specs.declared.call.Activity.TheVariants.{Running, Blocked, Trapped}
 use Rattle.mpd_model.specs.script.Program.{Program}
@@ -55,6 +57,14 @@ stands_at s w p (Some r) = Some (stands_by s w p r r.activity)
 -- Where a rank stands, by what it is doing. A rank that isn't there stands nowhere.
 abbrev pub stands_of : Program → World → ℕ → Option Stands
 stands_of s w p = stands_at s w p (slice_get w.ranks p)
+
+-- the same as a list of one, or of none
+abbrev pub stands_if : Program → World → ℕ → List Stands
+stands_if s w p = option_to_list (stands_of s w p)
+
+-- where each rank stands, by rank
+abbrev pub all_stands : Program → World → List Stands
+all_stands s w = flat_map (stands_if s w) (range_with_len 0 (length w.ranks))
 
 -- the line at which a rank stands that stands so
 abbrev pub line_of : Stands → Option ℕ

@@ -2,60 +2,28 @@
 
 ghost use Rattle.std.specs.Prelude.{◌<◌};
 
-use crate::standing::{can_wake, has_ended, stand};
-use mpd_core::Core;
-use mpd_model::{Activity, bare_line, cut_line};
+use crate::place::Stands;
+use mpd_model::{bare_line, cut_line};
 use std::alloc::AllocError;
 
-/// What is said of a blocked rank, by whether its call is complete.
-fn blocked_note(can_wake: bool) -> &'static str {
-    if can_wake { " can go on" } else { " waits" }
-}
-
-/// What is said of a rank that doesn't run.
-fn activity_note(core: &Core<'_>, rank: usize) -> &'static str {
-    match core.activity(rank) {
-        None => "",
-        Some(Activity::Running) => "",
-        Some(Activity::Blocked) => blocked_note(can_wake(core, rank)),
-        Some(Activity::Trapped(_)) => " trapped",
+/// What is said of a rank that stands so, after its name: nothing of one that runs.
+fn note_of(stands: Stands) -> &'static str {
+    match stands {
+        Stands::Ended | Stands::At(_) => "",
+        Stands::Waits(_) => " waits",
+        Stands::CanGoOn(_) => " can go on",
+        Stands::Trapped(..) => " trapped",
     }
-}
-
-/// Adds a rank, and whether it runs, after `before`.
-fn push_named_rank(
-    core: &Core<'_>,
-    out: &mut String,
-    before: &str,
-    rank: usize,
-) -> Result<(), AllocError> {
-    out.push_str(before)?;
-    let activity_note = activity_note(core, rank);
-    write!(out, "rank {rank}{activity_note}")
-}
-
-/// Adds a rank that stands at a line, after `before`, and nothing if it doesn't. Returns what
-/// stands before the next.
-fn push_rank_at(
-    core: &Core<'_>,
-    out: &mut String,
-    before: &'static str,
-    line: usize,
-    rank: usize,
-) -> Result<&'static str, AllocError> {
-    if stand(core, rank) != Some(line) {
-        return Ok(before);
-    }
-    push_named_rank(core, out, before, rank)?;
-    Ok(", ")
 }
 
 /// Adds the ranks that stand at a line.
-fn push_ranks_at(core: &Core<'_>, out: &mut String, line: usize) -> Result<(), AllocError> {
+fn push_ranks_at(out: &mut String, standing: &[Stands], line: usize) -> Result<(), AllocError> {
     let mut before = "  <- ";
-    let count = core.rank_count();
-    for rank in 0..count {
-        before = push_rank_at(core, out, before, line, rank)?;
+    for (rank, stands) in standing.iter().enumerate() {
+        if stands.line() == Some(line) {
+            write!(out, "{before}rank {rank}{}", note_of(*stands))?;
+            before = ", ";
+        }
     }
     Ok(())
 }
@@ -82,15 +50,15 @@ pub(crate) fn push_column(out: &mut String, number: usize) -> Result<(), AllocEr
 
 /// Adds a line of the script, which has this number, with the ranks that stand there.
 fn push_line(
-    core: &Core<'_>,
     out: &mut String,
+    standing: &[Stands],
     number: usize,
     line: &[u8],
 ) -> Result<(), AllocError> {
     push_column(out, number)?;
     out.push_str("  ")?;
     push_shown(out, line)?;
-    push_ranks_at(core, out, number)?;
+    push_ranks_at(out, standing, number)?;
     out.push('\n')
 }
 
@@ -102,96 +70,56 @@ fn is_shown(about: Option<usize>, number: usize) -> bool {
     }
 }
 
-/// Adds a line of the script, if it is shown.
-fn push_line_if(
-    core: &Core<'_>,
-    out: &mut String,
-    about: Option<usize>,
-    number: usize,
-    line: &[u8],
-) -> Result<(), AllocError> {
-    if is_shown(about, number) {
-        push_line(core, out, number, line)
-    } else {
-        Ok(())
-    }
-}
-
 /// Adds the lines of a text, all or those about one.
 fn push_lines(
-    core: &Core<'_>,
     out: &mut String,
-    about: Option<usize>,
     text: &[u8],
+    standing: &[Stands],
+    about: Option<usize>,
 ) -> Result<(), AllocError> {
     let mut rest = text;
     let mut number = 0usize;
     while let Some((line, behind)) = cut_line(rest) {
         number = number.saturating_add(1);
-        push_line_if(core, out, about, number, bare_line(line))?;
+        if is_shown(about, number) {
+            push_line(out, standing, number, bare_line(line))?;
+        }
         rest = behind;
     }
     Ok(())
 }
 
-/// Adds a rank that has ended, after `before`, and nothing if it hasn't. Returns what stands before
-/// the next.
-fn push_ended_at(
-    core: &Core<'_>,
-    out: &mut String,
-    before: &'static str,
-    rank: usize,
-) -> Result<&'static str, AllocError> {
-    if !has_ended(core, rank) {
-        return Ok(before);
-    }
-    write!(out, "{before}rank {rank}")?;
-    Ok(", ")
-}
-
-/// Adds the ranks that have ended.
-fn push_all_ended(core: &Core<'_>, out: &mut String) -> Result<(), AllocError> {
-    let mut before = "ended: ";
-    let count = core.rank_count();
-    for rank in 0..count {
-        before = push_ended_at(core, out, before, rank)?;
-    }
-    Ok(())
-}
-
-/// Whether some rank has ended.
-fn some_ended(core: &Core<'_>) -> bool {
-    (0..core.rank_count()).any(|rank| has_ended(core, rank))
-}
-
 /// Adds the line of the ranks that have ended, if some have.
-fn push_ended(core: &Core<'_>, out: &mut String) -> Result<(), AllocError> {
-    if !some_ended(core) {
-        return Ok(());
+fn push_ended(out: &mut String, standing: &[Stands]) -> Result<(), AllocError> {
+    let mut before = "ended: ";
+    let mut end = "";
+    for (rank, stands) in standing.iter().enumerate() {
+        if let Stands::Ended = stands {
+            write!(out, "{before}rank {rank}")?;
+            (before, end) = (", ", "\n");
+        }
     }
-    push_all_ended(core, out)?;
-    out.push('\n')
+    out.push_str(end)
 }
 
-/// Adds the text of a script line by line, with the ranks that stand at each, and below it those that have ended.
-pub fn push_list(core: &Core<'_>, out: &mut String, text: &[u8]) -> Result<(), AllocError> {
-    push_lines(core, out, None, text)?;
-    push_ended(core, out)
+/// Adds the text of a script line by line, with the ranks that stand at each, and below it those
+/// that have ended, given where all ranks stand (`all_stands`). `Err` means that memory was refused.
+pub fn push_list(out: &mut String, text: &[u8], standing: &[Stands]) -> Result<(), AllocError> {
+    push_lines(out, text, standing, None)?;
+    push_ended(out, standing)
 }
 
 /// Adds the lines of a script about the one where a rank stands, or that it has ended, and nothing
-/// if there is no such rank.
+/// if there is no such rank, given where all ranks stand. `Err` means that memory was refused.
 pub fn push_list_about(
-    core: &Core<'_>,
     out: &mut String,
     text: &[u8],
+    standing: &[Stands],
     rank: usize,
 ) -> Result<(), AllocError> {
-    if rank >= core.rank_count() {
-        return Ok(());
-    }
-    match stand(core, rank) {
-        None => write!(out, "rank {rank} has ended\n"),
-        Some(line) => push_lines(core, out, Some(line), text),
+    match standing.get(rank).map(|stands| stands.line()) {
+        None => Ok(()),
+        Some(None) => write!(out, "rank {rank} has ended\n"),
+        Some(about) => push_lines(out, text, standing, about),
     }
 }

@@ -3,10 +3,11 @@
 ghost use Rattle.std.specs.Prelude.{◌≡◌};
 ghost use Rattle.mpd_names.specs.Stand as spec;
 
+use crate::line::Marks;
 use mpd_model::{CallId, CallKind, Trap};
 use std::fmt;
 
-/// A call, where it was issued, and what it is. Its words are `line 9, 0.1 recv from 1 tag 2`.
+/// A call, where it was issued, and what it is.
 #[derive(Clone, Copy)]
 pub struct PlacedCall {
     pub call: CallId,
@@ -16,17 +17,38 @@ pub struct PlacedCall {
     pub kind: Option<CallKind>,
 }
 
-impl fmt::Display for PlacedCall {
+/// A call as it is told of a script with these marks: `line 9 (farm.c:58), 0.1 recv from 1 tag 2`.
+#[derive(Clone, Copy)]
+pub struct MarkedCall<'s>(pub PlacedCall, pub Marks<'s>);
+
+impl<'s> fmt::Display for MarkedCall<'s> {
     fn fmt<W: fmt::Write>(&self, f: &mut fmt::Formatter<W>) -> fmt::Result {
-        match self.kind {
-            None => write!(f, "line {}, {}", self.line, self.call),
-            Some(kind) => write!(f, "line {}, {} {kind}", self.line, self.call),
+        let MarkedCall(placed, marks) = *self;
+        let line = marks.line(placed.line);
+        match placed.kind {
+            None => write!(f, "line {line}, {}", placed.call),
+            Some(kind) => write!(f, "line {line}, {} {kind}", placed.call),
         }
     }
 }
 
-/// Where a rank stands, and whether it can go on. Its words follow the rank's name, as
-/// ` waits at line 9, 0.1 recv from 1 tag 2` does.
+/// The rank of a call and its line, as `rank 1, line 5 (farm.c:58)`.
+#[derive(Clone, Copy)]
+pub struct Issuer<'s>(pub PlacedCall, pub Marks<'s>);
+
+impl<'s> fmt::Display for Issuer<'s> {
+    fn fmt<W: fmt::Write>(&self, f: &mut fmt::Formatter<W>) -> fmt::Result {
+        let Issuer(placed, marks) = *self;
+        write!(
+            f,
+            "rank {}, line {}",
+            placed.call.rank,
+            marks.line(placed.line)
+        )
+    }
+}
+
+/// Where a rank stands, and whether it can go on.
 #[derive(Clone, Copy)]
 pub enum Stands {
     /// It has no statement left.
@@ -56,15 +78,26 @@ impl Stands {
     }
 }
 
-impl fmt::Display for Stands {
+/// Where a rank stands, as it is told of a script with these marks. The words follow the rank's
+/// name, as ` waits at line 9 (farm.c:58), 0.1 recv from 1 tag 2` does.
+#[derive(Clone, Copy)]
+pub struct MarkedStands<'s>(pub Stands, pub Marks<'s>);
+
+impl<'s> fmt::Display for MarkedStands<'s> {
     fn fmt<W: fmt::Write>(&self, f: &mut fmt::Formatter<W>) -> fmt::Result {
-        match *self {
+        let MarkedStands(stands, marks) = *self;
+        match stands {
             Stands::Ended => write!(f, " has ended"),
-            Stands::At(line) => write!(f, " is at line {line}"),
-            Stands::Waits(call) => write!(f, " waits at {call}"),
-            Stands::CanGoOn(call) => write!(f, " can go on from {call}"),
+            Stands::At(line) => write!(f, " is at line {}", marks.line(line)),
+            Stands::Waits(call) => write!(f, " waits at {}", MarkedCall(call, marks)),
+            Stands::CanGoOn(call) => write!(f, " can go on from {}", MarkedCall(call, marks)),
             Stands::Trapped(line, trap) => {
-                write!(f, " is trapped at line {line}: {}", trap.name())
+                write!(
+                    f,
+                    " is trapped at line {}: {}",
+                    marks.line(line),
+                    trap.name()
+                )
             }
         }
     }

@@ -9,7 +9,7 @@ use std::alloc::AllocError;
 
 /// The line of a text after `above` others, without its line end, if there is one.
 #[tactic(auto, using(crate::proofs::SourceLemmas::passing))]
-fn line_behind(text: &[u8], above: usize) -> Option<&[u8]>
+pub(crate) fn line_behind(text: &[u8], above: usize) -> Option<&[u8]>
     ensures { MatchOption result (slice_get (lines_of text.now) above ≡ None) (λ l. slice_get (lines_of text.now) above ≡ Some l.now) }
 {
     let mut rest = text;

@@ -1,6 +1,6 @@
 //! Where ranks stand in a script.
 
-ghost use Rattle.std.specs.Prelude.{◌≡◌, slice_get};
+ghost use Rattle.std.specs.Prelude.{◌≡◌, ◌++◌, IfOk, OnOk, slice_get};
 ghost use Rattle.mpd_model.specs.steps.World.{last_call};
 ghost use Rattle.mpd_model.specs.steps.Next.{waits, can_wake};
 ghost use Rattle.mpd_names.specs.Placed.{placed_call_of, rank_line};
@@ -10,6 +10,7 @@ use crate::place::Stands;
 use crate::placed::{placed_call, rank_line};
 use mpd_core::Core;
 use mpd_model::Activity;
+use std::alloc::{AllocError, Global};
 
 /// Whether a rank exists and is blocked.
 pub fn is_blocked(core: &Core<'_>, rank: usize) -> bool
@@ -70,6 +71,28 @@ pub fn stands(core: &Core<'_>, rank: usize) -> Option<Stands>
         Some(Activity::Blocked) => Some(blocked(core, rank)),
         Some(Activity::Trapped(trap)) => Some(Stands::Trapped(rank_line(core, rank), trap)),
     }
+}
+
+/// Adds where a rank stands, if there is such a rank.
+fn push_stands(core: &Core<'_>, all: &mut Vec<Stands>, rank: usize) -> Result<(), AllocError>
+    ensures { OnOk result (all.new.items ≡ all.old.items ++ standing.stands_if core.now.program core.now.world rank) }
+{
+    if let Some(stands) = stands(core, rank) {
+        all.push(stands)?;
+    }
+    Ok(())
+}
+
+/// Where each rank stands, by rank. `Err` means that memory was refused.
+pub fn all_stands(alloc: Global, core: &Core<'_>) -> Result<Vec<Stands>, AllocError>
+    ensures { IfOk result (λ all. all.items ≡ standing.all_stands core.now.program core.now.world) }
+{
+    let mut all = Vec::new(alloc);
+    let count = core.rank_count();
+    for rank in 0..count {
+        push_stands(core, &mut all, rank)?;
+    }
+    Ok(all)
 }
 
 /// The line, from 1, where a rank stands: none of one that has ended, or that isn't there.

@@ -4,6 +4,7 @@ ghost use Rattle.std.specs.Prelude.{◌≡◌};
 ghost use Rattle.mpd_names.specs.Called as called;
 
 use crate::cells::kind_cells;
+use crate::line::Marks;
 use mpd_model::{Breakpoint, Condition, Decl, DeclKind, push_compared, push_meant};
 use std::alloc::AllocError;
 
@@ -75,10 +76,15 @@ fn push_when(out: &mut String, decls: &[Decl], when: Option<Condition>) -> Resul
 }
 
 /// Adds a breakpoint, as it was set.
-pub fn push_break(out: &mut String, decls: &[Decl], stop: Breakpoint) -> Result<(), AllocError> {
+pub fn push_break(
+    out: &mut String,
+    decls: &[Decl],
+    marks: Marks<'_>,
+    stop: Breakpoint,
+) -> Result<(), AllocError> {
     match stop {
         Breakpoint::Line { line, of, when } => {
-            write!(out, "line {line}")?;
+            write!(out, "line {}", marks.line(line))?;
             push_meant(out, of)?;
             push_when(out, decls, when)
         }

@@ -3,7 +3,9 @@
 ghost use Rattle.std.specs.Prelude.{◌<◌, length};
 
 use crate::holding::{Held, Holding, held_in, holdings};
+use crate::line::Marks;
 use crate::name::Named;
+use crate::place::MarkedCall;
 use crate::placed::placed_call;
 use crate::text::push_cell_name;
 use mpd_core::Core;
@@ -36,6 +38,7 @@ fn push_values(
 fn push_handles(
     core: &Core<'_>,
     out: &mut String,
+    marks: Marks<'_>,
     rank: usize,
     first: usize,
     handles: &[Option<usize>],
@@ -47,7 +50,10 @@ fn push_handles(
         push_cell_name(out, decls, DeclKind::Handle, first.saturating_add(index))?;
         match *handle {
             None => out.push_str(" = no request")?,
-            Some(index) => write!(out, " = {}", placed_call(core, CallId { rank, index }))?,
+            Some(index) => {
+                let call = placed_call(core, CallId { rank, index });
+                write!(out, " = {}", MarkedCall(call, marks))?
+            }
         }
         before = ", ";
     }
@@ -66,6 +72,7 @@ fn push_no_cell(out: &mut String, decls: &[Decl], declaration: usize) -> Result<
 fn push_cells(
     core: &Core<'_>,
     out: &mut String,
+    marks: Marks<'_>,
     rank: usize,
     named: Named,
     all: &Held,
@@ -79,7 +86,7 @@ fn push_cells(
         Held::Calls(calls) if calls.items.is_empty() => {
             push_no_cell(out, decls, named.declaration)
         }
-        Held::Calls(calls) => push_handles(core, out, rank, named.first, &calls.items),
+        Held::Calls(calls) => push_handles(core, out, marks, rank, named.first, &calls.items),
     }
 }
 
@@ -88,6 +95,7 @@ fn push_cells(
 pub fn push_named(
     core: &Core<'_>,
     out: &mut String,
+    marks: Marks<'_>,
     rank: usize,
     named: Named,
 ) -> Result<(), AllocError> {
@@ -96,7 +104,7 @@ pub fn push_named(
     }
     let all = held_in(*out.allocator(), core, rank, named)?;
     write!(out, "rank {rank}: ")?;
-    push_cells(core, out, rank, named, &all)?;
+    push_cells(core, out, marks, rank, named, &all)?;
     out.push('\n')
 }
 

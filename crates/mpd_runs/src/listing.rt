@@ -16,7 +16,7 @@ use mpd_explore::{
     Ending, SearchLeaf, SearchLimits, SearchReport, Unwatched, Witnesses, explore_watched,
 };
 use mpd_model::{RUNS_MAX, STEPS_MAX};
-use mpd_names::{end_name, push_end_places};
+use mpd_names::{Marks, end_name, push_end_places};
 use mpd_outcomes::{Count, push_count};
 use mpd_trail::Debugger;
 use std::alloc::{AllocError, Global};
@@ -122,11 +122,12 @@ pub(crate) fn ending_name(ending: &Ending) -> &'static str {
 pub(crate) fn push_ending_places(
     out: &mut String,
     lines: &[usize],
+    marks: Marks<'_>,
     ending: &Ending,
 ) -> Result<(), AllocError> {
     match ending {
         Ending::Cut => Ok(()),
-        Ending::Ended(outcome) => push_end_places(out, lines, outcome),
+        Ending::Ended(outcome) => push_end_places(out, lines, marks, outcome),
     }
 }
 
@@ -134,6 +135,7 @@ pub(crate) fn push_ending_places(
 fn push_leaf(
     out: &mut String,
     lines: &[usize],
+    marks: Marks<'_>,
     place: usize,
     leaf: &SearchLeaf,
 ) -> Result<(), AllocError> {
@@ -141,7 +143,7 @@ fn push_leaf(
     write!(out, "{number} ")?;
     push_choices_words(out, &leaf.choices.items)?;
     write!(out, ": {}", ending_name(&leaf.ending))?;
-    push_ending_places(out, lines, &leaf.ending)?;
+    push_ending_places(out, lines, marks, &leaf.ending)?;
     out.push('\n')
 }
 
@@ -185,6 +187,7 @@ pub fn push_runs(
     alloc: Global,
     debugger: &Debugger<'_>,
     out: &mut String,
+    marks: Marks<'_>,
     runs: usize,
 ) -> Result<(), AllocError> {
     if !is_number(runs) {
@@ -193,7 +196,7 @@ pub fn push_runs(
     let report = runs_from(alloc, debugger, runs)?;
     let lines = debugger.core().code().lines();
     for (place, leaf) in report.leaves.iter().enumerate() {
-        push_leaf(out, lines, place, leaf)?;
+        push_leaf(out, lines, marks, place, leaf)?;
     }
     push_total(out, counts_of(&report.leaves, report.more))?;
     out.push_str("one run for all orders of independent steps; diagnose counts each order\n")

@@ -22,6 +22,7 @@ use crate::states::{ByStates, STATES_VISITED, by_states};
 use crate::way::{Way, first_in};
 use mpd_explore::{Ending, SearchLeaf, SearchReport};
 use mpd_model::{IssuedList, Outcome, RUNS_MAX, STEPS_MAX, StepList, TrapList};
+use mpd_names::Marks;
 use mpd_policy::{Wide, wide_decisions_can_be_followed};
 use mpd_trail::Debugger;
 use std::alloc::{AllocError, Global};
@@ -344,10 +345,12 @@ pub fn push_count(out: &mut String, count: usize) -> Result<(), AllocError> {
 }
 
 /// Adds how the run ends that lies ahead, by how many steps, and where, given the line of each
-/// statement; of the run of a number this number, too. `Err` means that memory was refused.
+/// statement and the marks of the script; of the run of a number this number, too. `Err` means that
+/// memory was refused.
 pub fn push_ahead(
     out: &mut String,
     lines: &[usize],
+    marks: Marks<'_>,
     number: Option<usize>,
     ending: &Ending,
     ahead: usize,
@@ -359,7 +362,7 @@ pub fn push_ahead(
     }
     push_count(out, ahead)?;
     out.push_str(" ahead")?;
-    push_ending_places(out, lines, ending)?;
+    push_ending_places(out, lines, marks, ending)?;
     out.push('\n')
 }
 

@@ -8,6 +8,7 @@ use crate::effect::Effect;
 use crate::looks::push_text;
 use crate::reply::{Answer, NumberList, TextList};
 use mpd_core::Core;
+use mpd_explain::push_if;
 use mpd_model::{Decl, DeclKind};
 use std::alloc::{AllocError, Global};
 
@@ -80,20 +81,6 @@ fn is_among(numbers: &[usize], number: usize) -> bool
     ensures { result ≡ list_any (λ l. l == number) numbers.now }
 {
     numbers.iter().any(|other| *other == number)
-}
-
-/// Adds a number, if it is chosen.
-pub(crate) fn push_if(
-    numbers: &mut Vec<usize>,
-    number: usize,
-    is_chosen: bool,
-) -> Result<(), AllocError>
-    ensures { OnOk result (numbers.new.items ≡ numbers.old.items ++ (if is_chosen then number ∷ [] else [])) }
-{
-    if is_chosen {
-        numbers.push(number)?;
-    }
-    Ok(())
 }
 
 /// Adds a number, if it is among some.

@@ -5,6 +5,7 @@ ghost use Rattle.mpd_wire.specs.Words.{feed_lines, AreLines, AreWords, HasWords}
 
 use mpd_explain::{PlacedStep, push_candidate, push_end, push_losses};
 use mpd_model::Decl;
+use mpd_names::Marks;
 use mpd_session::{Answer, Explained, Reply, TextList};
 use std::alloc::{AllocError, Global};
 
@@ -64,7 +65,7 @@ fn push_step(
     ensures { OnOk result (length words.new.items ≡ length words.old.items + 1) }
 {
     let mut text = String::new(alloc);
-    push_candidate(&mut text, decls, false, step)?;
+    push_candidate(&mut text, decls, Marks::none(), false, step)?;
     words.push(text)?;
     Ok(())
 }
@@ -105,8 +106,8 @@ fn feed_lines(alloc: Global, text: &str) -> Result<TextList, AllocError>
 /// What is told of how a run has ended, and of the requests that are lost.
 fn end_text(alloc: Global, told: &Explained) -> Result<String, AllocError> {
     let mut text = String::new(alloc);
-    push_end(&mut text, &told.decls.items, &told.end)?;
-    push_losses(&mut text, &told.lost.items)?;
+    push_end(&mut text, &told.decls.items, Marks::none(), &told.end)?;
+    push_losses(&mut text, Marks::none(), &told.lost.items)?;
     Ok(text)
 }
 

@@ -1,4 +1,4 @@
-use Rattle.std.proofs.Common.{◌++◌, length, slice_get, ap, ◌∙◌, true}
+use Rattle.std.proofs.Common.{length, slice_get, true}
 use Rattle.mpd_core.proofs.RangeLemmas.{given_more}
 use Rattle.mpd_names.specs.Held.{holding_if}
 use Rattle.mpd_names.proofs.holding.push_all.Goals as goal

@@ -1,4 +1,0 @@
-pub mod Marks
-pub mod Marked
-pub mod MarkRows
-pub mod MarkedRows
