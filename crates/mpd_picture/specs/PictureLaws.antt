@@ -1,5 +1,5 @@
--- What a drawing shows of a run: its arrows are the pairs, and its bars the releases; and where.
-use Rattle.std.specs.Prelude.{◌≡◌, ℕ, ◌≤◌, Bool, true, false, ◌&&◌, List, [], ◌∷◌, Some}
+-- What a drawing shows of a run: its calls, the pairs as arrows, the releases as bars; and where.
+use Rattle.std.specs.Prelude.{◌≡◌, ℕ, ◌≤◌, ◌==◌, Bool, true, false, ◌&&◌, if◌then◌else◌, List, [], ◌∷◌, map, Some}
 use Rattle.mpd_model.specs.declared.step.CallId.{CallId}
 use Rattle.std.specs.List.{filter, flat_map}
 use Rattle.mpd_model.specs.declared.step.Step.{Step}
@@ -8,7 +8,7 @@ use Rattle.mpd_model.specs.declared.call.MatchSet.{MatchSet}
 use Rattle.mpd_model.specs.declared.call.MatchSet.TheVariants.{Pair, Woke}
 use Rattle.mpd_model.specs.declared.call.MatchSet.TheVariants as set
 use Rattle.mpd_model.specs.script.Program.{Program}
-use Rattle.mpd_model.specs.steps.World.{World, start}
+use Rattle.mpd_model.specs.steps.World.{World, start, call_id, call_numbers}
 use Rattle.mpd_model.specs.steps.Next.{fold}
 use Rattle.mpd_picture.specs.declared.glyph.Glyph.{Glyph}
 use Rattle.mpd_picture.specs.declared.glyph.Mark.{Mark}
@@ -16,6 +16,7 @@ use Rattle.mpd_picture.specs.declared.glyph.Event.{Event}
 use Rattle.mpd_picture.specs.declared.glyph.Event.TheVariants.{Paired}
 use Rattle.mpd_picture.specs.declared.shape.Shape.{Shape}
 use Rattle.mpd_picture.specs.declared.shape.Shape.TheVariants.{Arrow, Bar}
+use Rattle.mpd_picture.specs.declared.shape.Shape.TheVariants as shape
 use Rattle.mpd_picture.specs.Glyphs.{glyphs_of}
 use Rattle.mpd_picture.specs.Marks.{is_row, stands_in, under, below, row_of, event_row, marks_of}
 use Rattle.mpd_picture.specs.Shapes.{shapes_of}
@@ -38,6 +39,19 @@ ArrowsArePairs =
     (s : Program) (mode : Mode) (steps : List Step) (w : World) → fold (start s mode) steps ≡ Some w
     → flat_map set_of_shape (shapes_of s w (marks_of (glyphs_of s mode steps)))
     ≡ filter is_drawn w.board.sets
+
+-- the call of a rank that a shape is drawn for
+abbrev pub call_of_shape : ℕ → Shape → List CallId
+call_of_shape p (shape.Call c row place free) = if p == c.call.rank then c.call ∷ [] else []
+call_of_shape p x = []
+
+-- In the drawing of any run the calls of each rank are exactly those of its state, each once, in
+-- the order in which they were issued.
+abbrev pub CallsAreDrawnOnce : Type 0
+CallsAreDrawnOnce =
+    (s : Program) (mode : Mode) (steps : List Step) (w : World) → fold (start s mode) steps ≡ Some w
+    → (p : ℕ) → flat_map (call_of_shape p) (shapes_of s w (marks_of (glyphs_of s mode steps)))
+    ≡ map (call_id p) (call_numbers w.board p)
 
 -- whether something takes a row in the lane of a rank
 abbrev pub in_lane : ℕ → Event → Bool

@@ -20,6 +20,6 @@ mod svg;
 pub use drawing::{Look, draw, push_picture};
 pub use ends::{Finish, Wanted};
 pub use glyph::{Deed, Note};
-pub use laws::{arrows_are_pairs, lanes_go_down, messages_go_down};
+pub use laws::{arrows_are_pairs, calls_are_drawn_once, lanes_go_down, messages_go_down};
 pub use picture::{DrawFault, GLYPHS_MAX, Picture, picture_of};
 pub use shape::Shape;
