@@ -24,7 +24,7 @@ TOLD_BY = {
     'a run': r'\d+ steps, depth \d+', 'a run of one step': r'1 step, depth \d+', 'a run back': r'\d+ steps back, depth \d+',
     'a run back of one step': r'1 step back, depth \d+', 'at the start': r'at the start',
     'before a breakpoint': r'before breakpoint \d+: .*', 'stopped by a number': r'stopped: as many steps .*',
-    'stopped behind a choice': r'stopped: after the choice', 'stopped at a line': r'stopped: a rank is at line \d+', 'stopped where a rank has gone on': r'stopped: rank \d+ has gone on',
+    'stopped where the steps ahead end': r'stopped: the steps ahead end here', 'stopped at a line': r'stopped: a rank is at line \d+', 'stopped where a rank has gone on': r'stopped: rank \d+ has gone on',
     'stopped behind a call': r'stopped: that call is over', 'steps that are gone': r'the \d+ steps that lay ahead are gone',
     'a step that is gone': r'the step that lay ahead is gone', 'which runs are listed': r'one run for all orders of .*', 'printed on the way': r'rank \d+ prints -?\d+',
     'several values on the way': r'rank \d+ prints -?\d+( -?\d+)+', 'no statement at a line': r'no statement begins at line \d+',

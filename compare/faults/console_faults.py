@@ -1,11 +1,12 @@
 """Faults that are put into the console of the model on purpose: consoles.py must notice each.
 
 Steps told behind them, candidates from 0, lines of other statements, ranks beside other lines, words that are repeated and others that aren't,
-choices that are run through, deadlocks by another walk, near misses that are left out, and other names for words that are none.
+deadlocks by another walk, near misses that are left out, and other names for words that are none.
 """
 
 from inspect import isfunction
 
+from faults.console_faults_of_along import along_faults
 from faults.console_faults_of_blame import blame_faults
 from faults.console_faults_of_hits import hit_faults
 from faults.console_faults_of_lines import line_faults
@@ -294,19 +295,6 @@ def refused_at_end(self, number=None):
     return [console.REFUSALS[session.NOT_ENABLED]] if isinstance(self.decided, policy.Leaf) else SOUND['next'](self, number)
 
 
-def through_choices(self, most=session.MOST_COUNT):
-    """What runs through choices that it comes to, where the step ahead is a candidate."""
-    if self.can_choose_again:
-        return SOUND['run'](self, most)
-    stop = policy.run_on(self.debugger, self.session.breaks, most) if 1 <= most <= session.MOST_COUNT else None
-    made = 0 if stop is None else stop.steps
-    while stop is not None and stop.cause == policy.CHOICE and self.debugger.depth < len(self.debugger.steps):
-        self.debugger.redo()
-        stop = policy.run_on(self.debugger, self.session.breaks, session.MOST_COUNT)
-        made += 1 + stop.steps
-    return SOUND['run'](self, most) if stop is None else self.stopped(stop._replace(steps=made), '')
-
-
 def dropping(name):
     """What drops the steps ahead."""
     def answer(self, *given):
@@ -319,57 +307,6 @@ def dropping(name):
 def usual(name, number):
     """What takes another number where none is said."""
     return lambda self, *given: SOUND[name](self, *(given or (number,)))
-
-
-def choosing_again(change):
-    """What runs otherwise from a choice where steps are ahead, by the console and the number."""
-    def run(self, *given):
-        return change(self, *given) if self.can_choose_again and given != (0,) else SOUND['run'](self, *given)
-    return run
-
-
-def again(self, count=1):
-    """What is told of a run that takes steps ahead at a choice."""
-    if count == 1:
-        return self.again([console.BEHIND_CHOICE])
-    lines = self.redo(count)
-    return [lines[0], console.BEHIND_CHOICE, *lines[1:]]
-
-
-def stays(self, *_):
-    """What stays at the choice."""
-    return self.stopped(policy.run_on(self.debugger, self.session.breaks, 1), '')
-
-
-def drops(self, *_):
-    """What drops the other steps that are ahead."""
-    told = again(self)
-    del self.debugger.steps[self.debugger.depth:]
-    return [*told[:2], *self.where()]
-
-
-def runs_on(self, *_):
-    """What runs on behind the choice."""
-    told = again(self)
-    return [*told[:2], *self.stopped(policy.run_on(self.debugger, self.session.breaks, 100), '')[1:]]
-
-
-def first_candidate(self, *_):
-    """What takes the first candidate, and not the step ahead."""
-    world, step = self.world, self.decided.steps[0]
-    lines = self.take(step)
-    return [lines[0], *([] if self.hit(world, step) else [console.BEHIND_CHOICE]), *lines[1:]]
-
-
-def refused_at_choice(self, *given):
-    """What looks at the number there, too."""
-    must_be(given == () or given[0] <= session.MOST_COUNT, console.BAD_STEPS)
-    return again(self)
-
-
-def always_ahead(self, *given):
-    """What takes the step ahead wherever one is, and not at choices alone."""
-    return again(self) if self.ahead and given != (0,) else SOUND['run'](self, *given)
 
 
 def forward(change):
@@ -461,21 +398,6 @@ def move_faults():
             'candidates from 0': lambda self, number=None: SOUND['next'](self, None if number is None else number + 1),
             'no such candidate alone': changed('next', lambda lines, self: lines[:1] if lines[0] == console.NO_CANDIDATE else lines)}),
         *named('run', {
-            'through choices that are ahead': through_choices,
-            'it stays at a choice': choosing_again(stays),
-            'what is ahead is dropped at a choice': choosing_again(drops),
-            'a choice told as a run': choosing_again(lambda self, *_: [f'1 step, depth {self.debugger.depth + 1}', *again(self)[1:]]),
-            'on behind a choice': choosing_again(runs_on),
-            'the first candidate': choosing_again(first_candidate),
-            'the step ahead where it is a candidate': choosing_again(
-                lambda self, *_: again(self) if self.ahead[0] in self.decided.steps else stays(self)),
-            'at a choice without a number alone': choosing_again(lambda self, *given: stays(self) if given else again(self)),
-            'so many steps behind a choice': choosing_again(lambda self, most=1: again(self, most)),
-            'no reason behind a choice': choosing_again(lambda self, *_: self.redo()),
-            'another reason behind a choice': choosing_again(lambda self, *_: self.again([console.STOPS[policy.MAX]])),
-            'a number of steps at a choice that is looked at': choosing_again(refused_at_choice),
-            '0 at a choice, too': lambda self, *given: again(self) if self.can_choose_again else SOUND['run'](self, *given),
-            'the step ahead everywhere': always_ahead,
             'ten steps': usual('run', 10),
             'one step': usual('run', 1)}),
         *named('stopped', {
@@ -794,5 +716,5 @@ def shown_faults():
 
 def breakages():
     """All faults."""
-    return [*shown_faults(), *line_of_words_faults(), *where_faults(), *move_faults(), *break_faults(), *look_faults(), *run_faults(), *reload_faults(), *way_faults(),
+    return [*shown_faults(), *line_of_words_faults(), *where_faults(), *move_faults(), *along_faults(), *break_faults(), *look_faults(), *run_faults(), *reload_faults(), *way_faults(),
             *hit_faults(), *witness_faults(), *line_faults(), *word_faults(), *blame_faults()]

@@ -103,18 +103,6 @@ def before_break(name):
     return answer
 
 
-def both(self, otherwise=()):
-    """What says behind a choice that it is behind it where a breakpoint is hit, too."""
-    lines = SOUND['again'](self, otherwise)
-    return [*lines[:2], *otherwise, *lines[2:]] if is_break(lines[1]) else lines
-
-
-def choice_alone(self, otherwise=()):
-    """What says so in the place of the breakpoint."""
-    lines = SOUND['again'](self, otherwise)
-    return [lines[0], *otherwise, *lines[2:]] if is_break(lines[1]) and otherwise else lines
-
-
 def told_faults():
     return [
         *named('hit', {
@@ -128,15 +116,12 @@ def told_faults():
             'no variable': but_for(ChangeBreak),
             'no request': but_for(HandleBreak)}),
         *named('told', {
-            **{f'no breakpoint behind {word}': unhit(word) for word in ('next', 'run', 'redo', 'local', 'match', 'wake', 'wakeany', 'release')},
+            **{f'no breakpoint behind {word}': unhit(word) for word in ('next', 'redo', 'local', 'match', 'wake', 'wakeany', 'release')},
             'a breakpoint before the step': break_at(lambda hit, others: [*hit, *others]),
             'a breakpoint behind where it stands': break_at(lambda hit, others: [*others, *hit]),
             'a breakpoint behind next without a number alone': next_alone,
             'a breakpoint at choices alone': hit_at_choices,
             'no breakpoint at choices': unhit_at_choices}),
-        *named('again', {
-            'behind the choice, and the breakpoint': both,
-            'behind the choice, and no breakpoint': choice_alone}),
         *named('goto', {
             'a breakpoint of the last step': along('goto')}),
         *named('redo', {

@@ -458,7 +458,7 @@ def listed_single(self, number=None):
 
 def stops_at_single(self, most=session.MOST_COUNT):
     """What runs up to a single candidate."""
-    if self.can_choose_again:
+    if self.ahead:
         return SOUND['run'](self, most)
     must_be(1 <= most <= session.MOST_COUNT, console.BAD_STEPS)
     return self.stopped(policy.run(self.debugger, self.session.breaks, most), '')

@@ -247,7 +247,7 @@ def at_choice(change):
 
 def as_run(self):
     """What tells the step ahead as a run tells it."""
-    return self.again([console.BEHIND_CHOICE])
+    return self.along(lambda count, world, step: count == 1, console.STOPS[policy.MAX])
 
 
 def every(change):
@@ -284,18 +284,7 @@ def ahead_faults():
             'all that is one told by the depth': every(one_as_several),
             'all up to a choice': every(to_choice),
             'all of none': every(lambda self: SOUND['redo'](self, ALL) if self.ahead else self.depth_lines()),
-            'all of none as a number': every(lambda self: SOUND['redo'](self, ALL if self.ahead else 0))}),
-        *named('leaves_ahead', {
-            'never': lambda self, most: False,
-            'wherever steps are ahead': lambda self, most: bool(self.ahead[:most]) and isinstance(self.decided, policy.Forced),
-            'by the step that comes next alone': lambda self, most: bool(most) and SOUND['leaves_ahead'](self, 1),
-            'by all that are ahead': lambda self, most: bool(most) and SOUND['leaves_ahead'](self, len(self.ahead))}),
-        *named('run_along', {
-            'all that are ahead': lambda self, most: SOUND['run_along'](self, len(self.ahead)),
-            'one of them': lambda self, most: SOUND['run_along'](self, 1),
-            'up to a choice': lambda self, most: to_choice(self),
-            'told as a run': lambda self, most: [f'{min(most, len(self.ahead))} steps, {line}' if line.startswith('depth ') else line
-                                                 for line in SOUND['run_along'](self, most)]})]
+            'all of none as a number': every(lambda self: SOUND['redo'](self, ALL if self.ahead else 0))})]
 
 
 # ---- lines without a statement

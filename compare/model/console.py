@@ -52,8 +52,8 @@ REFUSALS = {
     session.NO_SUCH_BREAK: 'refused: no breakpoint has this number', session.BREAKS_FULL: 'refused: 64 breakpoints are set'}
 # Why a run stopped, where it isn't told by where it stands.
 STOPS = {MAX: 'stopped: as many steps as were asked for', FULL: 'stopped: no more than 1000000 steps are kept', START: 'at the start'}
-# The same of a run from a choice where steps are undone.
-BEHIND_CHOICE = 'stopped: after the choice'
+# The same of a move that has taken all steps ahead.
+AHEAD_ENDS = 'stopped: the steps ahead end here'
 LISTED, TRIED, MOST_FUEL = 10, 1000, 100000
 # How many states are come to where each is looked at once, at most.
 MOST_STATES = 1000000
@@ -237,18 +237,6 @@ class Console:
     def can_choose_again(self):
         """Whether it stands at a choice, and a step is undone."""
         return bool(self.ahead) and isinstance(self.decided, Choice)
-
-    def leaves_ahead(self, most):
-        """Whether a run on of so many steps would take another step than one that lies ahead."""
-        world = self.world
-        for step in self.ahead[:most]:
-            decided = policy.settled(policy.decision(world))
-            if not isinstance(decided, Forced):
-                return False
-            if decided.step != step:
-                return True
-            world = debugger.next_world(world, step)
-        return False
 
     def prompt(self):
         return f'({self.debugger.depth}) '
@@ -458,7 +446,7 @@ class Console:
         if number is None and self.ahead:
             return self.redo()
         if isinstance(decided, Forced):
-            return self.take(decided.step) if number is None else self.run_along(number) if self.leaves_ahead(number) else self.run(number)
+            return self.take(decided.step) if number is None else self.run(number)
         if isinstance(decided, policy.Leaf) or number is None:
             return self.where()
         if not 1 <= number <= len(decided.steps):
@@ -466,12 +454,10 @@ class Console:
         return self.take(decided.steps[number - 1])
 
     def run(self, most=session.MOST_COUNT):
-        """Runs on past choices of a single candidate; at one that was made before, and undone, it is made again, whatever the number is but 0."""
-        if most and self.can_choose_again:
-            return self.again([BEHIND_CHOICE])
-        if self.leaves_ahead(most):
-            return self.again([BEHIND_CHOICE]) if min(most, len(self.ahead)) == 1 else self.run_along(most)
+        """Takes steps ahead again, up to a choice or to so many; where none is ahead it runs on past choices of a single candidate."""
         must_be(1 <= most <= session.MOST_COUNT, BAD_STEPS)
+        if self.ahead:
+            return self.along(lambda count, world, step: count == most, STOPS[MAX], stops_at_choices=True)
         return self.stopped(policy.run_on(self.debugger, self.session.breaks, most), '')
 
     def until(self, line):
@@ -507,8 +493,8 @@ class Console:
 
     def up_to(self, is_last, why):
         """Goes on as `run` does, but no further than a step that is the last; tells why it stops there."""
-        if self.can_choose_again or self.leaves_ahead(session.MOST_COUNT):
-            return self.run()
+        if self.ahead:
+            return self.along(lambda count, world, step: is_last(world, step), why)
         most = self.steps_to(is_last)
         lines = self.run(session.MOST_COUNT if most is None else most)
         return [why if line == STOPS[MAX] else line for line in lines]
@@ -525,10 +511,32 @@ class Console:
             world = debugger.next_world(world, decided.step)
         return None
 
-    def run_along(self, most):
-        """Takes so many of the steps ahead, or all of them, past breakpoints and choices."""
-        self.session.redo(min(most, len(self.ahead)))
-        return self.depth_lines()
+    def along(self, is_last, why, stops_at_choices=False):
+        """Takes steps ahead again, and tells why it stops: for a breakpoint; else, where neither an end nor a choice tells that, since the step is
+        the last, or since the steps ahead end."""
+        count = self.steps_along(is_last, stops_at_choices)
+        self.session.redo(count)
+        world, step = self.debugger.worlds[-2], self.debugger.steps[self.debugger.depth - 1]
+        reason = [why if is_last(count, world, step) else AHEAD_ENDS] if isinstance(self.decided, Forced) else []
+        return [f'{plural(count, "step")}, depth {self.debugger.depth}', *(self.hit(world, step) or reason), *self.where()]
+
+    def steps_along(self, is_last, stops_at_choices):
+        """How many of the steps ahead it takes: up to the first that hits a breakpoint, is the last, or leads to a choice, where that counts."""
+        world = self.world
+        for count, step in enumerate(self.ahead, 1):
+            after = debugger.next_world(world, step)
+            if self.stops_behind(world, step) or is_last(count, world, step) or stops_at_choices and self.is_choice(after):
+                return count
+            world = after
+        return len(self.ahead)
+
+    def stops_behind(self, world, step):
+        """Whether a step hits a breakpoint that is taken in a world."""
+        return self.session.breaks.lowest_hit(world, step) is not None
+
+    def is_choice(self, world):
+        """Whether a choice is open in a world, of two candidates or more."""
+        return isinstance(policy.settled(policy.decision(world)), Choice)
 
     def stopped(self, stop, back):
         """What is told behind a run."""
@@ -586,12 +594,12 @@ class Console:
         self.session.redo(count)
         return self.depth_lines()
 
-    def again(self, otherwise=()):
-        """Takes the first step ahead again; what is told otherwise, where it hits no breakpoint."""
+    def again(self):
+        """Takes the first step ahead again."""
         world, step = self.world, self.ahead[0]
         told = step_words(self.at, step)
         self.session.redo(1)
-        return self.taken(told, self.hit(world, step) or otherwise)
+        return self.taken(told, self.hit(world, step))
 
     # ---- breakpoints
 

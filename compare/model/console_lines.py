@@ -5,7 +5,8 @@ What they are told of is `at`: a world, and the line of each call that was issue
 """
 
 from model import explaining, order
-from model.debugger import call_line, enabled_steps, find_call, is_done, last_call, next_world, partner, pending, posted, step_text
+from model.debugger import (available, call_line, enabled_steps, find_call, is_at_collective, is_at_probe, is_done, last_call, next_world, partner, pending,
+                            posted, step_text)
 from model.explaining import Reached, call_text, next_line, plain_text, short_value, wish
 from model.language import Branch, While
 from model.worlds import CallId, Step
@@ -76,9 +77,16 @@ def step_words(at, step):
     return f'{waiting}, by {call_text(at, request_of(at.world, step))}' if step.kind == 'wakeany' else waiting
 
 
+def is_told(world, step):
+    """Whether a step is one by which a rank goes on from a probe."""
+    return step.kind in ('wake', 'wakeany') and is_at_probe(world.ranks[step.first])
+
+
 def request_of(world, step):
-    """The call that a wake by one of some handles is of: what its handle holds."""
+    """The call that a wake by one of some handles is of: what its handle holds; or of one from a probe the send that it is told of."""
     wait = find_call(world, last_call(world, step.first))
+    if wait.kind == 'probe':
+        return next(send_id for send_id in available(world, last_call(world, step.first)) if step.second in (None, send_id.rank))
     return CallId(step.first, world.ranks[step.first].handles[wait.first + step.second])
 
 
@@ -125,6 +133,10 @@ def step_told(at, names, step, is_one):
         return 'all ranks leave the barrier'
     if step.kind == 'local':
         return f'rank {step.first} runs line {next_line(at.world.ranks[step.first])}'
+    if is_told(at.world, step):
+        return f'rank {step.first} is told of {call_text(at, request_of(at.world, step))}'
+    if step.kind == 'wake' and is_at_collective(at.world.ranks[step.first]):
+        return f'rank {step.first} goes on from {call_text(at, last_call(at.world, step.first))}'
     if step.kind == 'wake':
         return f'rank {step.first} goes on from line {line_of(at, last_call(at.world, step.first))}'
     if step.kind == 'match':
@@ -325,7 +337,7 @@ def lost_line(at, found):
     first = found[0]
     told = f'a request: {call_text(at, first)}'
     if len(found) > 1:
-        told = f'{len(found)} requests of line {at.lines[first]}, the first {first} {plain_text(find_call(at.world, first))}'
+        told = f'{len(found)} requests of line {at.lines[first]}, the first {first} {plain_text(at.world, first)}'
     return f'rank {first.rank} has lost {told}'
 
 

@@ -14,6 +14,7 @@ from model import console, debugger, explorer
 from model.console_words import CHOICE, FIRST, MORE_FIRST, MORE_HELP, TABLE, full_name
 from rows.console_starts import STARTS, start_problem
 from rows.examples import EXAMPLES
+from rows.worked_console_ahead import AHEAD
 from rows.worked_console_along import ALONG
 from rows.worked_console_blame import BLAME, CUT_FROM_HERE
 from rows.worked_console_choices import CHOICES
@@ -35,7 +36,7 @@ from rows.worked_console_ways import WAYS
 from rows.worked_marks import MARKS
 
 PAGE = os.path.join(os.path.dirname(EXAMPLES), 'docs', 'CONSOLE.md')
-DIALOGUES = MOVES + ALONG + LOOKS + TOLD + TEXTS + HELP + CHOICES + SOUGHT + WAYS + GOING + HITS + BLAME + ONWARD + VALUES + MARKS + RELOADS + SOURCED
+DIALOGUES = MOVES + ALONG + AHEAD + LOOKS + TOLD + TEXTS + HELP + CHOICES + SOUGHT + WAYS + GOING + HITS + BLAME + ONWARD + VALUES + MARKS + RELOADS + SOURCED
 SLOW = ALL_RUNS + FIRST_RUNS
 # What takes the model long: runs of 100,000 steps, and of one more.
 CUT = (

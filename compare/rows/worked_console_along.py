@@ -86,7 +86,7 @@ breakpoint 1: line 3
 > delete 1
 deleted 1
 > run
-9 match 3.0 1.0: rank 3, line 5, to rank 1, line 3
+1 step, depth 9
 breakpoint 0: match 3
 5 ahead: wake 1: line 3
     3    recv x from any tag 0;
@@ -108,7 +108,9 @@ depth 8
     3    recv x from any tag 0;
 {BOTH_RACES}
 > c 1000001
-9 match 3.0 1.0: rank 3, line 5, to rank 1, line 3
+refused: 1 to 1000000 steps can be asked for
+> c 1000000
+1 step, depth 9
 breakpoint 0: match 3
 5 ahead: wake 1: line 3
     3    recv x from any tag 0;
@@ -122,7 +124,7 @@ depth 8
     3    recv x from any tag 0;
 {BOTH_RACES}
 > run 7
-9 match 3.0 1.0: rank 3, line 5, to rank 1, line 3
+1 step, depth 9
 breakpoint 0: match 3
 5 ahead: wake 1: line 3
     3    recv x from any tag 0;
@@ -170,8 +172,7 @@ depth 11
     6    irecv h y from any tag 2;
 {ANY_CHOICE}
 > run
-12 match 1.1 0.2: rank 1, line 10, to rank 0, line 6
-stopped: after the choice
+1 step, depth 12
 {ANY_CHOICE}
 > run
 0 steps, depth 12
@@ -186,14 +187,12 @@ depth 11
     6    irecv h y from any tag 2;
 {ANY_CHOICE}
 > run
-12 match 1.1 0.2: rank 1, line 10, to rank 0, line 6
-stopped: after the choice
+1 step, depth 12
 1 ahead: wakeany 0 1: line 7, by line 5, 0.1 irecv from 1 tag 3
     7    waitany r to i;
 {ANY_CHOICE}
 >
-13 wakeany 0 1: line 7, by line 5, 0.1 irecv from 1 tag 3
-stopped: after the choice
+1 step, depth 13
 ended: done
 > goto 12
 depth 12
@@ -223,7 +222,7 @@ depth 8
     9    isend r[1] 6 to 0 tag 2;
     5    irecv h y from any tag 2;
 > run
-depth 10
+2 steps, depth 10
 ended: done
 > history 2
 9 match 1.1 0.1: rank 1, line 9, to rank 0, line 5
@@ -234,7 +233,7 @@ depth 8
     9    isend r[1] 6 to 0 tag 2;
     5    irecv h y from any tag 2;
 > next 3
-depth 10
+2 steps, depth 10
 ended: done
 > goto 0
 depth 0
@@ -250,7 +249,8 @@ depth 0
 10 ahead: local 0: line 3
     3  if rank == 0 {
 > next 9
-depth 9
+9 steps, depth 9
+stopped: as many steps as were asked for
 1 ahead: wakeany 0 0: line 6, by line 4, 0.0 irecv from 1 tag 1
     6    waitany r to i;
 >
@@ -292,24 +292,26 @@ depth 9
 >
 refused: no choice was made before
 > run
-10 match 2.0 0.0: rank 2, line 4, to rank 0, line 3
-stopped: after the choice
-16 ahead: wake 0: line 3
-{TAKES_THREE}
->
-5 steps, depth 15
+6 steps, depth 15
 11 ahead: match 1.0 0.1: rank 1, line 4, to rank 0, line 3
     4  }} else {{ send 1 to 0 tag 0; }}
 {TAKES_THREE}
 {OF_TWO}
 >
-16 match 1.0 0.1: rank 1, line 4, to rank 0, line 3
-stopped: after the choice
-10 ahead: wake 0: line 3
-{TAKES_THREE}
->
-10 steps, depth 26
+11 steps, depth 26
 ended: done
+> goto 9
+depth 9
+17 ahead: match 2.0 0.0: rank 2, line 4, to rank 0, line 3
+    4  }} else {{ send 1 to 0 tag 0; }}
+{TAKES_THREE}
+{OF_THREE}
+> until rank 1
+12 steps, depth 21
+stopped: rank 1 has gone on
+5 ahead: match 3.0 0.2: rank 3, line 4, to rank 0, line 3
+    4  }} else {{ send 1 to 0 tag 0; }}
+{TAKES_THREE}
 > goto 20
 depth 20
 6 ahead: wake 1: line 4

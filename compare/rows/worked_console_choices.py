@@ -69,12 +69,7 @@ local 1
 local 2
 local 2
 > run
-7 match 1.0 0.0: rank 1, line 6, to rank 0, line 3
-stopped: after the choice
-3 ahead: wake 0: line 3
-    3    recv x from any tag 0;
->
-3 steps, depth 10
+4 steps, depth 10
 {TRAP_END}
 > deadlock
 no deadlock from here: 1 run, and no more (1 trap)
@@ -253,7 +248,7 @@ run 1, cut, is 2 steps ahead
     2  while 1 { }
 > next 5
 2 steps, depth 3
-stopped: no more than 1000000 steps are kept
+stopped: the steps ahead end here
 next: local 0: line 2
     2  while 1 { }
 > next 1
@@ -308,10 +303,8 @@ depth 8
     3    recv x from any tag 0;
 {BOTH_RACES}
 > run
-9 match 3.0 1.0: rank 3, line 5, to rank 1, line 3
-stopped: after the choice
-5 ahead: wake 3: line 5
-    5    send 7 to rank - 2 tag 0;
+6 steps, depth 14
+ended: done
 > u
 depth 8
 6 ahead: match 3.0 1.0: rank 3, line 5, to rank 1, line 3
@@ -390,7 +383,8 @@ depth 8
     9    isend r[1] 6 to 0 tag 2;
     5    irecv h y from any tag 2;
 > next 2
-depth 9
+1 step, depth 9
+stopped: the steps ahead end here
 next: wakeany 0 0: line 6, by line 4, 0.0 irecv from 1 tag 1
     6    waitany r to i;
 '''),
@@ -519,7 +513,12 @@ breakpoint 0: match 8
 1 ahead: wake 0: line 6
     6    send 7 to 1 tag 0;
 > n 1000000
-3 steps, depth 8
+1 step, depth 6
+stopped: the steps ahead end here
+next: wake 1: line 8
+    8    recv x from 0 tag 0;
+> n 1000000
+2 steps, depth 8
 rank 1 prints 7
 ended: done
 > next 0
@@ -633,12 +632,7 @@ refused: there is no such run
    10    waitany r to i;
 {REQUESTS_CHOICE}
 > run
-13 {OTHER_REQUEST}
-stopped: after the choice
-1 ahead: local 0: line 11
-   11    assert i == 0;
-> run
-1 step, depth 14
+2 steps, depth 14
 {ORDER_TRAPS}
 '''),
     Dialogue('a run, and a step, along those ahead, where a single candidate comes next that is another step', 'order_decides.mpd', f'''
@@ -647,7 +641,12 @@ trap is 14 steps ahead: rank 0 at line 11 (assert)
 14 ahead: local 0: line 7
     7  if rank == 0 {{
 > run
-depth 14
+12 steps, depth 12
+2 ahead: {OTHER_REQUEST}
+   10    waitany r to i;
+{REQUESTS_CHOICE}
+> run
+2 steps, depth 14
 {ORDER_TRAPS}
 > goto 10
 depth 10

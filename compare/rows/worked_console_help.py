@@ -67,7 +67,12 @@ deleted 1
 > info breakpoints
 breakpoint 0: match 6
 > run
-11 steps, depth 11
+5 steps, depth 5
+stopped: the steps ahead end here
+next: local 0: line 8
+    8    sum = sum + i;
+> run
+6 steps, depth 11
 rank 0 prints 6
 ended: done
 '''),

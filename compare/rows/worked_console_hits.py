@@ -429,7 +429,7 @@ next: local 0: line 7
 depth 9
 1 {SECOND_AHEAD}
 > run
-10 wakeany 0 1: line 6, by line 5, 0.1 irecv from 1 tag 3
+1 step, depth 10
 breakpoint 0: change 0 i
 next: local 0: line 7
     7    print i;
@@ -483,7 +483,7 @@ next: local 0: line 7
 depth 9
 1 {FIRST_AHEAD}
 > run
-10 wakeany 0 0: line 6, by line 4, 0.0 irecv from 1 tag 1
+1 step, depth 10
 breakpoint 1: line 7
 next: local 0: line 7
     7    print i;
@@ -493,7 +493,7 @@ deleted 1
 depth 9
 1 {FIRST_AHEAD}
 > run 7
-10 wakeany 0 0: line 6, by line 4, 0.0 irecv from 1 tag 1
+1 step, depth 10
 breakpoint 2: change 0 r[0]
 next: local 0: line 7
     7    print i;
@@ -503,8 +503,8 @@ deleted 2
 depth 9
 1 {FIRST_AHEAD}
 > run
-10 wakeany 0 0: line 6, by line 4, 0.0 irecv from 1 tag 1
-stopped: after the choice
+1 step, depth 10
+stopped: the steps ahead end here
 next: local 0: line 7
     7    print i;
 > back
@@ -534,7 +534,7 @@ deleted 0
 depth 9
 {THIRD_AHEAD}
 > run
-10 match 3.0 0.0: rank 3, line 4, to rank 0, line 3
+1 step, depth 10
 breakpoint 1: match 3
 next: wake 0: line 3
 {TAKES_THREE}

@@ -391,12 +391,7 @@ depth 0
     8    irecv r note from any tag any;
 {STOLEN_CHOICE}
 >
-10 match 1.0 0.0: rank 1, line 13, to rank 0, line 8
-stopped: after the choice
-1 ahead: wake 1: line 13
-   13    if rank == 1 {{ send 42 to 0 tag 7; }} else {{ send 5 to 0 tag 1; }}
->
-1 step, depth 11
+2 steps, depth 11
 {STOLEN_END}
 >
 0 steps, depth 11
@@ -508,8 +503,13 @@ before breakpoint 0: line 7
 > delete 0
 deleted 0
 > run
-8 steps, depth 14
+3 steps, depth 9
 rank 0 prints 2
+stopped: the steps ahead end here
+next: local 0: line 9
+    9    barrier;
+> run
+5 steps, depth 14
 rank 1 prints 1
 ended: deadlock: rank 0 at line 9, rank 1 at line 9
   rank 0 waits at line 9, 0.1 barrier: for all ranks at a barrier
@@ -607,6 +607,11 @@ stopped: as many steps as were asked for
 one run for all orders of independent steps; diagnose counts each order
 > run 1
 1 step, depth 3
+stopped: as many steps as were asked for
+next: local 0: line 2
+    2  while 1 { }
+> run 1
+0 steps, depth 3
 stopped: no more than 1000000 steps are kept
 next: local 0: line 2
     2  while 1 { }

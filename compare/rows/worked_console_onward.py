@@ -10,10 +10,6 @@ SECOND_AHEAD = f'''4 ahead: match 2.0 0.0: rank 2, line 13, to rank 0, line 8
 {SENDS}
     8    irecv r note from any tag any;
 {STOLEN_CHOICE}'''
-SECOND_TAKEN = f'''10 match 2.0 0.0: rank 2, line 13, to rank 0, line 8
-stopped: after the choice
-3 ahead: wake 2: line 13
-{SENDS}'''
 
 ONWARD = (
     Dialogue('to a line and to the end of a call, of the first message', 'first_message.mpd', '''
@@ -111,13 +107,19 @@ next: local 0: line 10
 depth 9
 {SECOND_AHEAD}
 > until 10
-{SECOND_TAKEN}
-> back
+4 steps, depth 13
+stopped: a rank is at line 10
+next: local 0: line 10
+   10    wait r;
+> goto 9
 depth 9
 {SECOND_AHEAD}
 > finish 0
-{SECOND_TAKEN}
-> back
+4 steps, depth 13
+stopped: that call is over
+next: local 0: line 10
+   10    wait r;
+> goto 9
 depth 9
 {SECOND_AHEAD}
 > next 1
@@ -170,7 +172,12 @@ depth 2
 1 ahead: local 1: line 5
     5  if rank == 0 {
 > until rank 0
-4 steps, depth 6
+1 step, depth 3
+stopped: the steps ahead end here
+next: local 1: line 8
+    8    recv x from 0 tag 0;
+>
+3 steps, depth 6
 stopped: rank 0 has gone on
 next: wake 1: line 8
     8    recv x from 0 tag 0;
@@ -184,7 +191,12 @@ stopped: rank 1 has gone on
 3 ahead: local 1: line 8
     8    recv x from 0 tag 0;
 >
-4 steps, depth 7
+3 steps, depth 6
+stopped: the steps ahead end here
+next: wake 1: line 8
+    8    recv x from 0 tag 0;
+>
+1 step, depth 7
 stopped: rank 1 has gone on
 next: local 1: line 9
     9    print x;
@@ -269,10 +281,11 @@ depth 9
     8    irecv r note from any tag any;
 {STOLEN_CHOICE}
 > until rank 2
-10 match 2.0 0.0: rank 2, line 13, to rank 0, line 8
-stopped: after the choice
-1 ahead: wake 2: line 13
+2 steps, depth 11
+stopped: rank 2 has gone on
+next: match 1.0 0.1: rank 1, line 13, to rank 0, line 9
 {SENDS}
+    9    recv result from 1 tag 7;
 '''),
     Dialogue('to where a rank has gone on, by a release', LATER, '''
 > until rank 0

@@ -278,7 +278,13 @@ breakpoint 1: change 1 r
 > delete 0
 deleted 0
 > run
-11 steps, depth 13
+9 steps, depth 11
+{LOST_RECEIVE}
+stopped: the steps ahead end here
+next: local 0: line 11
+   11    print a + b;
+> run
+2 steps, depth 13
 rank 0 prints 12
 ended: done
 {LOST_RECEIVE}

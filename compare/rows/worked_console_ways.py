@@ -137,7 +137,7 @@ rank 0 prints 0
 23 ahead: local 0: line 2
 {TURNS_OF_TWO}
 > next 23
-depth 25
+23 steps, depth 25
 rank 0 prints 1
 rank 1 prints 10 11 -1
 rank 2 prints 20 21
@@ -241,7 +241,12 @@ depth 9
 1 ahead: local 0: line 3
 {TURNS_OF_THREE}
 > run 8
-8 steps, depth 17
+1 step, depth 10
+stopped: the steps ahead end here
+next: local 0: line 3
+    3    while i < 3 {{ isend r i to 1 tag i; i = i + 1; }}
+> run 7
+7 steps, depth 17
 rank 0 prints 3
 stopped: as many steps as were asked for
 next: wake 1: line 7
@@ -532,12 +537,7 @@ depth 6
     3    recv x from any tag 0;
 {TRAP_CHOICE}
 > run
-7 match 2.0 0.0: rank 2, line 6, to rank 0, line 3
-stopped: after the choice
-4 ahead: wake 0: line 3
-    3    recv x from any tag 0;
->
-4 steps, depth 11
+5 steps, depth 11
 rank 0 prints 1
 {HANG_END}
 > goto 0

@@ -1,5 +1,5 @@
 -- What is told of the step that decided, put together from its parts.
-use Rattle.std.proofs.Common.{◌≡◌, ℕ, Option, Some, None, refl, ap, sym, ◌∙◌, subst}
+use Rattle.std.proofs.Common.{◌≡◌, ℕ, Option, Some, None, ap, sym, ◌∙◌, subst}
 use Rattle.std.specs.Prelude.{option_map, IfSome}
 use Rattle.mpd_session.specs.Held.{Held}
 use Rattle.mpd_session.specs.Respond.{respond}
@@ -9,10 +9,8 @@ use Rattle.mpd_blame.specs.declared.back.Blame.{Blame}
 use Rattle.mpd_blame.specs.declared.back.Blame.TheVariants as blame_is
 use Rattle.mpd_blame.specs.declared.back.Decided.{Decided}
 use Rattle.mpd_blame.specs.declared.told.PlacedBlame.{PlacedBlame}
-use Rattle.mpd_console.specs.declared.told.Blamed.{Blamed}
 use Rattle.mpd_console.specs.declared.told.Carried.{Carried}
 use Rattle.mpd_console.specs.declared.told.Told.{Told}
-use Rattle.mpd_console.specs.declared.told.Told.TheVariants as told
 use Rattle.mpd_console.specs.Moves.{goto_command}
 use Rattle.mpd_console.specs.Blamed.{IsBlamed}
 use Rattle.mpd_console.specs.Says.{asking, carried_of, blamed_by, BlamedAs, BlamedBy}

@@ -1,5 +1,5 @@
 -- What a word does with a session, put together from what is told of its parts.
-use Rattle.std.proofs.Common.{◌≡◌, ℕ, ◌-◌, List, length, take, Option, Some, None, refl, ap, sym, ◌∙◌, subst}
+use Rattle.std.proofs.Common.{◌≡◌, ℕ, List, take, Option, Some, None, refl, ap, sym, ◌∙◌, subst}
 use Rattle.std.specs.Prelude.{option_and_then, option_map, IfSome}
 use Rattle.mpd_model.specs.declared.breakpoint.Breakpoint.{Breakpoint}
 use Rattle.mpd_model.specs.steps.World.{World}
@@ -25,19 +25,23 @@ use Rattle.mpd_runs.specs.declared.way.Way.{Way}
 use Rattle.mpd_runs.specs.Runs.{fuel_at}
 use Rattle.mpd_runs.specs.Seek.{found_run, numbered_run, counts_in, LiesAhead, FoundLies, IsSought, IsSearch, TooMany}
 use Rattle.mpd_runs.specs.LastChoice.{last_choice}
+use Rattle.mpd_console.specs.declared.along.Along.{Along}
 use Rattle.mpd_console.specs.declared.lead.Lead.{Lead}
 use Rattle.mpd_console.specs.declared.moves.Doing.{Doing}
-use Rattle.mpd_console.specs.declared.moves.Doing.TheVariants.{Asks, Undoes, Seeks, Follows, Blames, Looks}
+use Rattle.mpd_console.specs.declared.moves.Doing.TheVariants.{Asks, Goes, Undoes, Seeks, Follows, Blames, Looks}
 use Rattle.mpd_console.specs.declared.told.Carried.{Carried}
+use Rattle.mpd_console.specs.declared.told.Carried.TheVariants as carried
+use Rattle.mpd_console.specs.declared.told.Moved.{Moved}
+use Rattle.mpd_console.specs.declared.told.Went.TheVariants as went
 use Rattle.mpd_console.specs.declared.told.Sight.{Sight}
 use Rattle.mpd_console.specs.declared.told.Told.{Told}
 use Rattle.mpd_console.specs.declared.told.Told.TheVariants as told
 use Rattle.mpd_console.specs.declared.values.Valued.{Valued}
 use Rattle.mpd_console.specs.Moves.{asks_next, doing_of, lead_of}
-use Rattle.mpd_console.specs.Carried.{refused_by, done_by}
+use Rattle.mpd_console.specs.Carried.{refused_by, done_by, moved}
 use Rattle.mpd_console.specs.Looks.{sight_of}
-use Rattle.mpd_console.specs.Values.{valued_of, is_asked}
-use Rattle.mpd_console.specs.Says.{lead_at, lead_in, carried_at, carried_in, carried_of, asking, CarriedBy, UndoneBy, LaidBy, found_from, numbered_from, AreCounts, FoundAs, IsFoundFrom, SoughtBy, SoughtFrom, FollowedBy, BlamedBy, sight_at, sight_in, DoneBy, doing_at, doing_in, Does, valued_at, valued_in}
+use Rattle.mpd_console.specs.Values.{valued_of}
+use Rattle.mpd_console.specs.Says.{lead_at, lead_in, carried_at, carried_in, carried_of, asking, along_at, along_in, AlongBy, CarriedBy, UndoneBy, LaidBy, found_from, numbered_from, AreCounts, FoundAs, IsFoundFrom, SoughtBy, SoughtFrom, FollowedBy, BlamedBy, sight_at, sight_in, DoneBy, doing_at, doing_in, Does, valued_at, valued_in}
 
 -- ---- what is so of the world of a trail
 
@@ -47,8 +51,9 @@ world_at s d r e = ap world_of (sym e) ∙ r.world
 pub led : (s : Held) (d : DebuggerView) (x : Word) (l : Lead) → IsReached (standing_of d) → d.trail ≡ s.trail → l ≡ lead_of d.trail d.world x → l ≡ lead_in s x
 led s d x l r e h = h ∙ ap (λ t. lead_of t d.world x) e ∙ sym (ap (lead_at s.trail x) (world_at s d r e))
 
-pub done_at : (s : Held) (d : DebuggerView) (x : Word) (z : Doing) → IsReached (standing_of d) → d.trail ≡ s.trail → z ≡ doing_of d.trail d.world x → z ≡ doing_in s x
-done_at s d x z r e h = h ∙ ap (λ t. doing_of t d.world x) e ∙ sym (ap (doing_at s.trail x) (world_at s d r e))
+pub done_at : (s : Held) (d : DebuggerView) (places : List (Option Breakpoint)) (x : Word) (z : Doing) → IsReached (standing_of d) → d.trail ≡ s.trail → places ≡ s.breaks → z ≡ doing_of d.trail d.world places x → z ≡ doing_in s x
+done_at s d places x z r e pl h =
+    h ∙ ap (λ t. doing_of t d.world places x) e ∙ ap (λ y. doing_of s.trail d.world y x) pl ∙ sym (ap (doing_at s.trail s.breaks x) (world_at s d r e))
 
 pub seen_at : (s : Held) (d : DebuggerView) (x : Word) (z : Sight) → IsReached (standing_of d) → d.trail ≡ s.trail → z ≡ sight_of d.trail d.world x → z ≡ sight_in s x
 seen_at s d x z r e h = h ∙ ap (λ t. sight_of t d.world x) e ∙ sym (ap (sight_at s.trail x) (world_at s d r e))
@@ -69,7 +74,11 @@ pub carried_done : (s : Held) (d : DebuggerView) (places : List (Option Breakpoi
 carried_done s d places l q v a c reached e pl is h =
     h ∙ ap (λ t. done_by t d.world places l a) e ∙ ap (λ z. done_by s.trail d.world z l a) pl ∙ sym (ap (carried_at s l (reply.Done v a)) (world_at s d reached e)) ∙ ap (λ y. carried_in s l y) (sym is)
 
-pub ruleset carrying = (carried_refused, carried_done)
+pub carried_along : (s : Held) (d : DebuggerView) (l : Lead) (a : Along) (m : Moved) (c : Carried) → IsReached (standing_of d) → d.trail ≡ s.trail → m ≡ moved d.trail d.world l (went.On a.steps) d.trail.depth a.stopped → c ≡ carried.Moved m → c ≡ along_in s l a
+carried_along s d l a m c reached e is h =
+    h ∙ ap carried.Moved (is ∙ ap (λ (t : Trail). moved t d.world l (went.On a.steps) t.depth a.stopped) e) ∙ sym (ap (along_at s l a) (world_at s d reached e))
+
+pub ruleset carrying = (carried_refused, carried_done, carried_along)
 
 pub reached : (s t u : Held) (x : Word) (c : Command) (l : Lead) (r : Reply) (k : Carried) → l ≡ lead_in s x → r ≡ (respond s (asking c)).0 → u ≡ t → k ≡ carried_in t l r → k ≡ carried_of s x c u
 reached s t u x c l r k is said same h = h ∙ ap (λ y. carried_in t y r) is ∙ ap (carried_in t (lead_in s x)) said ∙ ap (λ y. carried_in y (lead_in s x) (respond s (asking c)).0) (sym same)
@@ -81,6 +90,17 @@ asked_by s t x c None p e h is = (e, subst (λ y. IfSome y (λ k. k ≡ told.Car
 asked_by s t x c (Some k) p e h is = (e, subst (λ y. IfSome y (λ k. k ≡ told.Carried (carried_of s x c t))) (sym is) (ap told.Carried h))
 
 pub ruleset asked = (asked_by, led)
+
+-- ---- along steps ahead
+
+pub went_along : (s t u : Held) (x : Word) (a : Along) (l : Lead) (k : Carried) (o : Option Told) → l ≡ lead_in s x → t ≡ (respond s (asking (command.Redo a.steps))).1 → u ≡ t → k ≡ along_in t l a → o ≡ Some (told.Carried k) → AlongBy s x a o u
+went_along s t u x a l k o is said same h e =
+    (same ∙ said, subst (λ y. IfSome y (λ q. q ≡ told.Carried (along_in u (lead_in s x) a))) (sym e) (ap told.Carried (h ∙ ap (λ y. along_in t y a) is ∙ ap (λ y. along_in y (lead_in s x) a) (sym same))))
+
+pub went_untold : (s t : Held) (x : Word) (a : Along) (o : Option Told) → t ≡ (respond s (asking (command.Redo a.steps))).1 → o ≡ None → AlongBy s x a o t
+went_untold s t x a o said e = (said, subst (λ y. IfSome y (λ q. q ≡ told.Carried (along_in t (lead_in s x) a))) (sym e) tt)
+
+pub ruleset along = (went_along, went_untold, led)
 
 -- ---- runs that lie ahead
 
@@ -163,6 +183,9 @@ pub ruleset undone = (choice_undone, none_undone)
 pub does_ask : (s t : Held) (x : Word) (c : Command) (o : Option Told) → Asks c ≡ doing_in s x → CarriedBy s x c o t → Does s x o t
 does_ask s t x c o is h = subst (λ d. DoneBy s x d o t) is h
 
+pub does_go : (s t : Held) (x : Word) (a : Along) (o : Option Told) → Goes a ≡ doing_in s x → AlongBy s x a o t → Does s x o t
+does_go s t x a o is h = subst (λ d. DoneBy s x d o t) is h
+
 pub does_undo : (s t : Held) (x : Word) (o : Option Told) → Undoes ≡ doing_in s x → UndoneBy s x (last_choice s.trail) o t → Does s x o t
 does_undo s t x o is h = subst (λ d. DoneBy s x d o t) is h
 
@@ -178,7 +201,7 @@ does_blame s t x o is h = subst (λ d. DoneBy s x d o t) is h
 pub does_look : (s t : Held) (x : Word) (z : Sight) (o : Option Told) → Looks ≡ doing_in s x → t ≡ s → z ≡ sight_in s x → o ≡ Some (told.Looks z) → Does s x o t
 does_look s t x z o is e seen h = subst (λ d. DoneBy s x d o t) is (e, h ∙ ap (λ y. Some (told.Looks y)) seen)
 
-pub ruleset performing = (does_ask, does_undo, does_seek, does_follow, does_blame, does_look)
+pub ruleset performing = (does_ask, does_go, does_undo, does_seek, does_follow, does_blame, does_look)
 
 -- ---- expressions
 

@@ -1,5 +1,5 @@
 -- The cells that a name means are among those that a script has.
-use Rattle.std.proofs.Common.{◌≡◌, ℕ, ◌+◌, ◌<◌, ◌≤◌, Bool, true, false, if◌then◌else◌, List, [], ◌∷◌, Option, Some, None, Result, Ok, Err, slice_get, refl, sym, ap, subst, arith, cond}
+use Rattle.std.proofs.Common.{◌≡◌, ℕ, ◌+◌, ◌≤◌, Bool, true, false, if◌then◌else◌, List, [], ◌∷◌, Option, Some, None, Result, Ok, Err, slice_get, refl, sym, ap, subst, arith}
 use Rattle.std.specs.Prelude.{nat_lt, take, drop, ⊤}
 use Rattle.std.proofs.lemmas.Bool.Decides.{nat_tests}
 use Rattle.mpd_model.specs.declared.limits.TheConstants.{CELLS_MAX, HANDLES_MAX}
@@ -7,7 +7,7 @@ use Rattle.mpd_model.specs.script.Declaration.{Declared, cells_of, variables_in,
 use Rattle.mpd_model.specs.texts.Words.{number_of}
 use Rattle.mpd_names.specs.declared.name.Named.{Named}
 use Rattle.mpd_names.specs.declared.name.NameFault.{NameFault}
-use Rattle.mpd_names.specs.declared.name.NameFault.TheVariants.{Unknown, NoSuchCell}
+use Rattle.mpd_names.specs.declared.name.NameFault.TheVariants.{NoSuchCell}
 use Rattle.mpd_names.specs.Cells.{whole}
 use Rattle.mpd_names.specs.Names.{declaration_from, name_len, digits_of, element, indexed, meant_by, meant, meant_at, named}
 use Rattle.mpd_names.proofs.CellLemmas.{few_at}

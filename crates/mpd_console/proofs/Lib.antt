@@ -3,7 +3,8 @@ pub mod DeskLemmas
 pub mod BlamedLemmas
 pub mod OpeningLemmas
 pub mod OnwardLemmas
-pub mod MoveLemmas
+pub mod AlongLemmas
+pub mod LawLemmas
 pub mod NewsLemmas
 pub mod QuitLemmas
 pub mod ElsewhereLemmas

@@ -1,5 +1,5 @@
 -- How far a copy of a debugger runs on.
-use Rattle.std.proofs.Common.{◌≡◌, ℕ, suc, ◌-◌, ◌+◌, ◌<◌, ◌≤◌, Bool, true, false, if◌then◌else◌, List, length, drop, get_or, slice_get, slice_set, Option, Some, None, IfSome, refl, sym, ap, subst, ◌∙◌, arith}
+use Rattle.std.proofs.Common.{◌≡◌, ℕ, suc, ◌-◌, ◌+◌, ◌<◌, ◌≤◌, Bool, true, false, if◌then◌else◌, List, [], ◌∷◌, length, drop, get_or, slice_set, Option, Some, IfSome, refl, sym, ap, subst, ◌∙◌, arith}
 use Rattle.std.proofs.lemmas.Option.{slice_get_read}
 use Rattle.std.specs.List.{position}
 use Rattle.mpd_model.specs.declared.limits.TheConstants.{STEPS_MAX}
@@ -7,7 +7,7 @@ use Rattle.mpd_model.specs.declared.breakpoint.Stop.{Stop}
 use Rattle.mpd_model.specs.declared.step.Step.{Step}
 use Rattle.mpd_model.specs.steps.World.{World}
 use Rattle.mpd_model.specs.runs.Running.{all_applied, stop_of}
-use Rattle.mpd_model.specs.runs.Trail.{Trail, forgotten}
+use Rattle.mpd_model.specs.runs.Trail.{Trail, forgotten, applied}
 use Rattle.mpd_policy.specs.Single.{ran_on}
 use Rattle.mpd_model.specs.declared.breakpoint.Breakpoint.{Breakpoint}
 use Rattle.mpd_model.specs.runs.Breakpoints.{no_breaks, lowest_free}
@@ -38,6 +38,16 @@ wake_is t u after w v b p k since copied there none ran cut e =
     (cut ∙ ap (λ (x : Trail). drop t.depth x.steps)
     (ran ∙ ap (λ (x : Trail). all_applied x (ran_on x.program b STEPS_MAX x.depth v).steps) copied ∙ ap (λ x. all_applied (forgotten t) (ran_on t.program b STEPS_MAX t.depth x).steps) there
     ∙ ap (λ x. all_applied (forgotten t) (ran_on t.program x STEPS_MAX t.depth w).steps) none))
+
+-- ---- a copy that has run on
+
+-- as deep as it was, or deeper
+deeper : (t : Trail) (steps : List Step) → t.depth ≤ (all_applied t steps).depth
+deeper t [] = omega arith
+deeper t (a ∷ steps) = omega (arith, deeper (applied t a) steps)
+
+pub is_there : (t : Trail) (u : Trail) (n : ℕ) (steps : List Step) → n ≡ t.depth → u ≡ all_applied t steps → u.depth ≤ length u.steps → n ≤ length u.steps
+is_there t u n steps begun is within = omega (arith, begun, ap (λ (x : Trail). x.depth) is, deeper t steps, within)
 
 -- ---- back to before the last local step of a rank
 

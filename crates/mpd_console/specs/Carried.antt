@@ -1,5 +1,5 @@
 -- What a request of the session came to, by its reply and the session after it.
-use Rattle.std.specs.Prelude.{ℕ, Bool, true, false, nat_lt, if◌then◌else◌, not, List, Option, Some, None}
+use Rattle.std.specs.Prelude.{ℕ, Bool, false, if◌then◌else◌, not, List, Option, Some, None}
 use Rattle.mpd_model.specs.declared.breakpoint.Breakpoint.{Breakpoint}
 use Rattle.mpd_model.specs.declared.breakpoint.Breakpoint.TheVariants as on
 use Rattle.mpd_model.specs.declared.breakpoint.Cause.{Cause}
@@ -28,45 +28,26 @@ use Rattle.mpd_console.specs.declared.told.Why.{Why}
 use Rattle.mpd_console.specs.declared.told.Why.TheVariants as why
 use Rattle.mpd_console.specs.declared.told.Carried.{Carried}
 use Rattle.mpd_console.specs.declared.told.Carried.TheVariants as carried
-use Rattle.mpd_console.specs.Moves.{asks_next}
+use Rattle.mpd_console.specs.Along.{stopped_at, stopped_asked}
+use Rattle.mpd_console.specs.Moves.{ahead_of, asks_next}
 use Rattle.mpd_console.specs.News.{news_by}
 use Rattle.mpd_console.specs.Onward.{begins, is_line}
 
 -- ---- why a move went no further
-
--- the breakpoint of a number, where there is one
-abbrev pub stopped_at : ℕ → Option Breakpoint → Stopped
-stopped_at n None = stopped.There
-stopped_at n (Some b) = stopped.At (record { number = n; stop = b })
 
 -- a run back stops before the step that hits a breakpoint
 abbrev pub stopped_before : ℕ → Option Breakpoint → Stopped
 stopped_before n None = stopped.There
 stopped_before n (Some b) = stopped.Before (record { number = n; stop = b })
 
--- What goes on as `run` does takes a single step only at a choice, and says so where that hits no breakpoint.
-abbrev pub stopped_along : Word → Stopped
-stopped_along (word.Run n) = stopped.AfterChoice
-stopped_along (word.Until n) = stopped.AfterChoice
-stopped_along (word.UntilRank p) = stopped.AfterChoice
-stopped_along (word.Finish p) = stopped.AfterChoice
-stopped_along other = stopped.There
-
 -- after a step that is told: the lowest breakpoint that it hits
-abbrev pub stopped_hit : List (Option Breakpoint) → Word → Option ℕ → Stopped
-stopped_hit places x None = stopped_along x
-stopped_hit places x (Some n) = stopped_at n (break_at places n)
+abbrev pub stopped_hit : List (Option Breakpoint) → Option ℕ → Stopped
+stopped_hit places None = stopped.There
+stopped_hit places (Some n) = stopped_at n (break_at places n)
 
-abbrev pub stopped_step : Trail → List (Option Breakpoint) → Word → Option Step → Stopped
-stopped_step t places x None = stopped.There
-stopped_step t places x (Some a) = stopped_hit places x (last_hit places t)
-
--- why a run made no more steps than it was to make
-abbrev pub stopped_asked : Word → Stopped
-stopped_asked (word.Until n) = stopped.AtLine n
-stopped_asked (word.UntilRank p) = stopped.GoneOn p
-stopped_asked (word.Finish p) = stopped.CallOver
-stopped_asked other = stopped.AsAsked
+abbrev pub stopped_step : Trail → List (Option Breakpoint) → Option Step → Stopped
+stopped_step t places None = stopped.There
+stopped_step t places (Some a) = stopped_hit places (last_hit places t)
 
 abbrev pub stopped_break : Word → ℕ → Option Breakpoint → Stopped
 stopped_break word.RunBack n b = stopped_before n b
@@ -90,12 +71,12 @@ abbrev pub ran_by : Word → ℕ → Went
 ran_by word.RunBack n = went.Back n
 ran_by other n = went.On n
 
--- given how it went, the depth after it and why it went no further
+-- given how it went, the depth after it and why it went no further; with how many steps lie ahead then
 abbrev pub moved : Trail → World → Lead → Went → ℕ → Stopped → Moved
-moved t w l way depth stop = record { went = way; depth = depth; news = news_by l.known t w; stopped = stop }
+moved t w l way depth stop = record { went = way; depth = depth; ahead = ahead_of t; news = news_by l.known t w; stopped = stop }
 
 abbrev pub moved_of : Trail → World → List (Option Breakpoint) → Lead → ℕ → Moved
-moved_of t w places l depth = moved t w l (went_by l.step) depth (stopped_step t places l.word l.step)
+moved_of t w places l depth = moved t w l (went_by l.step) depth (stopped_step t places l.step)
 
 abbrev pub ran_of : Trail → World → List (Option Breakpoint) → Lead → ℕ → Stop → Moved
 ran_of t w places l depth stop = moved t w l (ran_by l.word stop.steps) depth (stopped_run places l.word stop.cause)

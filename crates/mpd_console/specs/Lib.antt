@@ -5,7 +5,9 @@ pub mod Elsewhere
 pub mod Again
 pub mod Quitting
 pub mod News
+pub mod Along
 pub mod Onward
 pub mod Moves
 pub mod Carried
+pub mod Laws
 pub mod Values

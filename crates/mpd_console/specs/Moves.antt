@@ -1,28 +1,30 @@
 -- What words ask of the session, and what is known of them before.
-use Rattle.std.specs.Prelude.{ℕ, ◌-◌, ◌==◌, Bool, true, false, ◌&&◌, ◌||◌, not, min, drop, nat_lt, nat_le, is_some, is_none, if◌then◌else◌, List, [], ◌∷◌, length, slice_get, Option, Some, None}
+use Rattle.std.specs.Prelude.{ℕ, ◌-◌, ◌==◌, Bool, true, false, ◌&&◌, not, nat_lt, nat_le, is_some, is_none, if◌then◌else◌, List, length, slice_get, Option, Some, None}
 use Rattle.mpd_model.specs.declared.limits.TheConstants.{STEPS_MAX}
 use Rattle.mpd_model.specs.declared.step.Step.{Step}
 use Rattle.mpd_model.specs.declared.decision.Decision.{Decision}
 use Rattle.mpd_model.specs.declared.decision.Decision.TheVariants.{Forced, Choice, Leaf}
+use Rattle.mpd_model.specs.declared.breakpoint.Breakpoint.{Breakpoint}
 use Rattle.mpd_model.specs.declared.breakpoint.Breakpoint.TheVariants as on
 use Rattle.mpd_model.specs.steps.World.{World}
 use Rattle.mpd_model.specs.steps.Next.{waits}
-use Rattle.mpd_model.specs.runs.Breakpoints.{no_breaks}
 use Rattle.mpd_model.specs.runs.Decisions.{decision}
-use Rattle.mpd_model.specs.runs.Running.{all_applied}
-use Rattle.mpd_model.specs.runs.Trail.{Trail, step_eq, forgotten}
+use Rattle.mpd_model.specs.runs.Trail.{Trail, step_eq}
 use Rattle.mpd_session.specs.declared.request.Command.{Command}
 use Rattle.mpd_session.specs.declared.request.Command.TheVariants as command
-use Rattle.mpd_policy.specs.Single.{single, only_step, ran_on}
+use Rattle.mpd_policy.specs.Single.{single, only_step}
 use Rattle.mpd_runs.specs.declared.way.Way.TheVariants as way
 use Rattle.mpd_vocabulary.specs.declared.word.Word.{Word}
 use Rattle.mpd_vocabulary.specs.declared.word.Word.TheVariants as word
 use Rattle.mpd_console.specs.declared.lead.Lead.{Lead}
 use Rattle.mpd_console.specs.declared.moves.TheConstants.{NO_CANDIDATE}
 use Rattle.mpd_console.specs.declared.moves.Doing.{Doing}
-use Rattle.mpd_console.specs.declared.moves.Doing.TheVariants.{Asks, Undoes, Seeks, Follows, Blames, Looks}
+use Rattle.mpd_console.specs.declared.moves.Doing.TheVariants.{Asks, Goes, Undoes, Seeks, Follows, Blames, Looks}
+use Rattle.mpd_console.specs.declared.along.Goal.{Goal}
+use Rattle.mpd_console.specs.declared.along.Goal.TheVariants.{Steps, Hit, Freed}
+use Rattle.mpd_console.specs.Along.{along_of}
 use Rattle.mpd_console.specs.News.{known_for}
-use Rattle.mpd_console.specs.Onward.{on_line, begins, is_line, steps_to, steps_to_wake, is_rank, depth_before, finish_rank}
+use Rattle.mpd_console.specs.Onward.{on_line, begins, is_line, steps_on, is_rank, depth_before, finish_rank}
 
 -- ---- what a word asks for
 
@@ -43,43 +45,26 @@ asks_next w x = asks_by (decision w) x
 abbrev pub ahead_of : Trail → ℕ
 ahead_of t = length t.steps - t.depth
 
--- A run would stop here, at a choice, though the step that is taken there lies ahead: where a step can be taken and none comes next, there is
--- a choice to make.
-abbrev pub is_alone : Option Step → Option Step → Bool
-is_alone one other = is_some one && is_none other
+-- a step that comes next is taken as the first candidate is, which is looked at where it is a candidate alone
+abbrev pub next_alone : Bool → Command
+next_alone comes = if comes then command.Next (Some 0) else command.Next None
 
-abbrev pub goes_along : Trail → World → Bool
-goes_along t w = is_alone (slice_get t.steps t.depth) (only_step w)
+-- the step that lies ahead, else the one that comes next
+abbrev pub next_one : Trail → World → Command
+next_one t w = if is_some (slice_get t.steps t.depth) then command.Redo 1 else next_alone (is_some (only_step w))
 
--- Whether two lists of steps part: at some place both have a step, and not the same.
-abbrev pub part : List Step → List Step → Bool
-part [] others = false
-part (a ∷ steps) [] = false
-part (a ∷ steps) (b ∷ others) = not (step_eq a b) || part steps others
+-- what goes on goes along the steps ahead, or where none is runs on
+abbrev pub onward : Trail → World → List (Option Breakpoint) → Word → Goal → Doing
+onward t w places x g = if is_some (slice_get t.steps t.depth) then Goes (along_of places x g t) else Asks (command.RunOn (steps_on t w g))
 
--- the trail of a run on of at most so many steps, as many as lie ahead at most
-abbrev pub ran_ahead : Trail → World → ℕ → Trail
-ran_ahead t w n = all_applied (forgotten t) (ran_on t.program no_breaks (min n (ahead_of t)) t.depth w).steps
+-- by so many steps; none, and more than are kept, are refused as a run on by so many is
+abbrev pub run_doing : Trail → World → List (Option Breakpoint) → Word → ℕ → Doing
+run_doing t w places x n = if nat_le 1 n && nat_le n STEPS_MAX then onward t w places x (Steps n) else Asks (command.RunOn n)
 
--- A run on would leave the steps that lie ahead, and take others: so it may be where those were laid by a search, whose walk forces fewer steps.
-abbrev pub leaves_ahead : Trail → World → ℕ → Bool
-leaves_ahead t w n = part (drop t.depth t.steps) (drop t.depth (ran_ahead t w n).steps)
-
--- a run on, or where that would leave the steps that lie ahead so many of these
-abbrev pub on_command : Trail → World → ℕ → Command
-on_command t w n = if leaves_ahead t w n then command.Redo (min n (ahead_of t)) else command.RunOn n
-
--- a step that comes next is taken as the first candidate is, which is looked at where it is a candidate alone; `next` goes along, too
-abbrev pub next_alone : Bool → Bool → Command
-next_alone comes along = if comes then command.Next (Some 0) else (if along then command.Redo 1 else command.Next None)
-
-abbrev pub next_command : Trail → World → Option ℕ → Command
-next_command t w None = if leaves_ahead t w 1 then command.Redo 1 else next_alone (is_some (only_step w)) (is_some (slice_get t.steps t.depth))
-next_command t w (Some n) = if is_some (only_step w) then on_command t w n else command.Next (Some (from_one n))
-
--- `run` goes along: at a choice it takes the step that lies ahead, and where a run on would leave those that do, it takes these
-abbrev pub run_command : Trail → World → ℕ → Command
-run_command t w n = if nat_lt 0 n && goes_along t w then command.Redo 1 else on_command t w n
+-- where a step comes next, a number asks for so many, and elsewhere for a candidate
+abbrev pub next_doing : Trail → World → List (Option Breakpoint) → Option ℕ → Doing
+next_doing t w places None = Asks (next_one t w)
+next_doing t w places (Some n) = if is_some (only_step w) then run_doing t w places (word.Next (Some n)) n else Asks (command.Next (Some (from_one n)))
 
 -- `redo` takes no more steps than lie ahead, where one does
 abbrev pub redo_command : Trail → ℕ → Command
@@ -89,62 +74,48 @@ redo_command t n = if nat_lt 0 (ahead_of t) && nat_lt (ahead_of t) n then comman
 abbrev pub goto_command : Trail → ℕ → Command
 goto_command t n = if nat_lt t.depth n && nat_le (n - t.depth) (ahead_of t) then command.Redo (n - t.depth) else command.Goto n
 
--- a run on goes no further than so many steps; steps that lie ahead are taken all the same
-abbrev pub no_further : ℕ → Command → Command
-no_further n (command.RunOn m) = command.RunOn n
-no_further n other = other
+-- to where a rank comes to a line; what is no line is refused as a breakpoint on it is, and where no statement begins at it nothing is done
+abbrev pub until_line : Trail → World → List (Option Breakpoint) → ℕ → Doing
+until_line t w places n = if begins t.program.lines n then onward t w places (word.Until n) (Hit (on_line n)) else Looks
 
--- what goes on as `run` does, by so many steps at most
-unfoldable pub up_to : Trail → World → ℕ → Command
-up_to t w n = no_further n (run_command t w STEPS_MAX)
+abbrev pub until_doing : Trail → World → List (Option Breakpoint) → ℕ → Doing
+until_doing t w places n = if is_line n then until_line t w places n else Asks (command.Break (on_line n))
 
--- up to where a rank comes to a line, as `run` goes on; what is no line is refused as a breakpoint on it is
-abbrev pub until_command : Trail → World → ℕ → Command
-until_command t w n = if is_line n then up_to t w (steps_to t w (on_line n)) else command.Break (on_line n)
-
--- where no statement begins at the line nothing is done
-abbrev pub until_doing : Trail → World → ℕ → Doing
-until_doing t w n = if is_line n && not (begins t.program.lines n) then Looks else Asks (until_command t w n)
-
--- up to where a rank has gone on; one that isn't there is told of
-abbrev pub until_rank_doing : Trail → World → ℕ → Doing
-until_rank_doing t w p = if is_rank w p then Asks (up_to t w (steps_to t w (on.Rank p))) else Looks
+-- to where a rank has gone on; one that isn't there is told of
+abbrev pub until_rank_doing : Trail → World → List (Option Breakpoint) → ℕ → Doing
+until_rank_doing t w places p = if is_rank w p then onward t w places (word.UntilRank p) (Hit (on.Rank p)) else Looks
 
 -- back to before the last local step of a rank; one that isn't there is told of
 abbrev pub back_rank_doing : Trail → World → ℕ → Doing
 back_rank_doing t w p = if is_rank w p then Asks (command.Goto (depth_before p t.steps t.depth)) else Looks
 
--- up to where a rank goes on that waits
-abbrev pub finish_command : Trail → World → ℕ → Command
-finish_command t w p = up_to t w (steps_to_wake t w p)
+-- to where a rank goes on that waits; one that doesn't wait is told of, as is that there is none
+abbrev pub finish_doing : Trail → World → List (Option Breakpoint) → Option ℕ → Doing
+finish_doing t w places None = Looks
+finish_doing t w places (Some p) = if waits (slice_get w.ranks p) then onward t w places (word.Finish (Some p)) (Freed p) else Looks
 
--- one that doesn't wait is told of, as is that there is none
-abbrev pub finish_doing : Trail → World → Option ℕ → Doing
-finish_doing t w None = Looks
-finish_doing t w (Some p) = if waits (slice_get w.ranks p) then Asks (finish_command t w p) else Looks
-
--- what a word does with a session: it asks for something that changes it, goes back to the last choice, lays a run ahead, the first that
--- ends so or that of a number, goes to the step that decided, or changes nothing
-abbrev pub doing_of : Trail → World → Word → Doing
-doing_of t w (word.Next n) = Asks (next_command t w n)
-doing_of t w (word.Run n) = Asks (run_command t w n)
-doing_of t w (word.Until n) = until_doing t w n
-doing_of t w (word.UntilRank p) = until_rank_doing t w p
-doing_of t w (word.Finish p) = finish_doing t w (finish_rank t p)
-doing_of t w (word.Back n) = Asks (command.Back n)
-doing_of t w (word.BackRank p) = back_rank_doing t w p
-doing_of t w word.RunBack = Asks command.RunBack
-doing_of t w word.UndoChoice = Undoes
-doing_of t w (word.Goto n) = Asks (goto_command t n)
-doing_of t w (word.Redo n) = Asks (redo_command t n)
-doing_of t w (word.Step a) = Asks (command.Step a)
-doing_of t w (word.Break b) = Asks (command.Break b)
-doing_of t w (word.Delete n) = Asks (command.Unbreak n)
-doing_of t w (word.Follow n) = Follows n
-doing_of t w word.Deadlock = Seeks way.Deadlock
-doing_of t w word.Trap = Seeks way.Trap
-doing_of t w word.Blame = Blames
-doing_of t w other = Looks
+-- what a word does with a session, given the breakpoints that are set: it asks for something that changes it, goes along steps ahead, goes back
+-- to the last choice, lays a run ahead, the first that ends so or that of a number, goes to the step that decided, or changes nothing
+abbrev pub doing_of : Trail → World → List (Option Breakpoint) → Word → Doing
+doing_of t w places (word.Next n) = next_doing t w places n
+doing_of t w places (word.Run n) = run_doing t w places (word.Run n) n
+doing_of t w places (word.Until n) = until_doing t w places n
+doing_of t w places (word.UntilRank p) = until_rank_doing t w places p
+doing_of t w places (word.Finish p) = finish_doing t w places (finish_rank t p)
+doing_of t w places (word.Back n) = Asks (command.Back n)
+doing_of t w places (word.BackRank p) = back_rank_doing t w p
+doing_of t w places word.RunBack = Asks command.RunBack
+doing_of t w places word.UndoChoice = Undoes
+doing_of t w places (word.Goto n) = Asks (goto_command t n)
+doing_of t w places (word.Redo n) = Asks (redo_command t n)
+doing_of t w places (word.Step a) = Asks (command.Step a)
+doing_of t w places (word.Break b) = Asks (command.Break b)
+doing_of t w places (word.Delete n) = Asks (command.Unbreak n)
+doing_of t w places (word.Follow n) = Follows n
+doing_of t w places word.Deadlock = Seeks way.Deadlock
+doing_of t w places word.Trap = Seeks way.Trap
+doing_of t w places word.Blame = Blames
+doing_of t w places other = Looks
 
 -- ---- the step that a word takes, told before it is taken
 
@@ -174,13 +145,9 @@ abbrev pub redone_step : Trail → Command → Option Step
 redone_step t (command.Redo n) = if n == 1 then slice_get t.steps t.depth else None
 redone_step t other = None
 
--- of a step by hand, `next`, and where one step is taken again by `redo`, or by what goes on as `run` does
+-- of a step by hand, `next`, and where one step is taken again by `redo`
 abbrev pub step_for : Trail → World → Word → Option Step
 step_for t w (word.Next n) = picked (slice_get t.steps t.depth) n (decision w)
-step_for t w (word.Run n) = redone_step t (run_command t w n)
-step_for t w (word.Until n) = redone_step t (run_command t w STEPS_MAX)
-step_for t w (word.UntilRank p) = redone_step t (run_command t w STEPS_MAX)
-step_for t w (word.Finish p) = redone_step t (run_command t w STEPS_MAX)
 step_for t w (word.Redo n) = redone_step t (redo_command t n)
 step_for t w (word.Step a) = Some a
 step_for t w other = None

@@ -15,6 +15,8 @@ use Rattle.mpd_model.specs.runs.Breakpoints.{no_breaks}
 use Rattle.mpd_model.specs.runs.Running.{all_applied, stop_of}
 use Rattle.mpd_model.specs.runs.Trail.{Trail, forgotten}
 use Rattle.mpd_policy.specs.Single.{ran_on}
+use Rattle.mpd_console.specs.declared.along.Goal.{Goal}
+use Rattle.mpd_console.specs.declared.along.Goal.TheVariants as goal
 
 -- ---- up to where a breakpoint would stop, as one of a line
 
@@ -67,6 +69,14 @@ ran_free t w = all_applied (forgotten t) (ran_on t.program no_breaks STEPS_MAX t
 -- how many steps a run takes to where a rank goes on that waits
 unfoldable pub steps_to_wake : Trail → World → ℕ → ℕ
 steps_to_wake t w p = steps_with (position (frees p) (drop t.depth (ran_free t w).steps))
+
+-- ---- up to either
+
+-- how many steps a run takes at most to what it goes on to
+abbrev pub steps_on : Trail → World → Goal → ℕ
+steps_on t w (goal.Steps n) = n
+steps_on t w (goal.Hit b) = steps_to t w b
+steps_on t w (goal.Freed p) = steps_to_wake t w p
 
 -- ---- of a rank
 

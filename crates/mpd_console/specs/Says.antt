@@ -2,6 +2,7 @@
 use Rattle.std.specs.Prelude.{◌≡◌, ℕ, ◌-◌, ◌⊎◌, Bool, true, false, nat_lt, if◌then◌else◌, List, [], ◌∷◌, ◌++◌, length, Option, Some, None, option_and_then, IfSome, refl}
 use Rattle.std.specs.Coded.{Coded, code_by, coded×, coded_ℕ, coded_bool, coded_list, coded_option}
 use Rattle.mpd_model.specs.declared.limits.TheConstants.{LINE_MAX}
+use Rattle.mpd_model.specs.declared.breakpoint.Breakpoint.{Breakpoint}
 use Rattle.mpd_model.specs.declared.step.Step.{Step}
 use Rattle.mpd_model.specs.declared.call.Mode.{Mode}
 use Rattle.mpd_model.specs.script.Program.{Program}
@@ -20,7 +21,6 @@ use Rattle.mpd_session.specs.Held.{Held, held_code}
 use Rattle.mpd_session.specs.Respond.{respond, laid}
 use Rattle.mpd_vocabulary.specs.declared.word.Word.{Word}
 use Rattle.mpd_vocabulary.specs.declared.word.Word.TheVariants as word
-use Rattle.mpd_vocabulary.specs.declared.word.WordFault.{WordFault}
 use Rattle.mpd_vocabulary.specs.declared.read.Line.{Line}
 use Rattle.mpd_vocabulary.specs.declared.read.Line.TheVariants.{Blank, Comment, Says, Evaluates, Reloads, Sources, Wrong}
 use Rattle.mpd_vocabulary.specs.Reading.{line_of, behind_word}
@@ -39,9 +39,10 @@ use Rattle.mpd_blame.specs.declared.back.Blame.{Blame}
 use Rattle.mpd_blame.specs.declared.back.Blame.TheVariants as blame_is
 use Rattle.mpd_blame.specs.declared.told.PlacedBlame.{PlacedBlame}
 use Rattle.mpd_console.specs.declared.prompts.Look.{Look}
+use Rattle.mpd_console.specs.declared.along.Along.{Along}
 use Rattle.mpd_console.specs.declared.lead.Lead.{Lead}
 use Rattle.mpd_console.specs.declared.moves.Doing.{Doing}
-use Rattle.mpd_console.specs.declared.moves.Doing.TheVariants.{Asks, Undoes, Seeks, Follows, Blames, Looks}
+use Rattle.mpd_console.specs.declared.moves.Doing.TheVariants.{Asks, Goes, Undoes, Seeks, Follows, Blames, Looks}
 use Rattle.mpd_console.specs.declared.told.Carried.{Carried}
 use Rattle.mpd_console.specs.declared.told.Carried.TheVariants as carried
 use Rattle.mpd_console.specs.declared.told.First.{First}
@@ -50,12 +51,13 @@ use Rattle.mpd_console.specs.declared.told.Laid.{Laid}
 use Rattle.mpd_console.specs.declared.told.Sight.{Sight}
 use Rattle.mpd_console.specs.declared.told.Sight.TheVariants as sight
 use Rattle.mpd_console.specs.declared.told.Told.{Told}
+use Rattle.mpd_console.specs.declared.told.Went.TheVariants as went
 use Rattle.mpd_console.specs.declared.told.Told.TheVariants as told
 use Rattle.mpd_console.specs.declared.values.Valued.{Valued}
 use Rattle.mpd_console.specs.declared.values.Valued.TheVariants as valued
 use Rattle.mpd_console.specs.News.{depth_alone}
 use Rattle.mpd_console.specs.Moves.{doing_of, goto_command, lead_of}
-use Rattle.mpd_console.specs.Carried.{carried_by}
+use Rattle.mpd_console.specs.Carried.{carried_by, moved}
 use Rattle.mpd_console.specs.Looks.{sight_of}
 use Rattle.mpd_console.specs.Blamed.{IsBlamed}
 use Rattle.mpd_console.specs.Values.{valued_of, is_asked, kept_if}
@@ -88,6 +90,20 @@ carried_of s x c t = carried_in t (lead_in s x) (respond s (asking c)).0
 -- The session after it is the one after that request, and what that came to is told, unless memory for that is refused.
 abbrev pub CarriedBy : Held → Word → Command → Option Told → Held → Type 0
 CarriedBy s x c o t = (t ≡ (respond s (asking c)).1) × IfSome o (λ k. k ≡ told.Carried (carried_of s x c t))
+
+-- ---- a word that goes along steps ahead
+
+-- what that came to, given the session after it, and what was known before
+abbrev pub along_at : Held → Lead → Along → Option World → Carried
+along_at t l a None = carried.Nothing
+along_at t l a (Some w) = carried.Moved (moved t.trail w l (went.On a.steps) t.trail.depth a.stopped)
+
+abbrev pub along_in : Held → Lead → Along → Carried
+along_in t l a = along_at t l a (world_of t.trail)
+
+-- So many of them are taken again, and what that came to is told, unless memory for that is refused.
+abbrev pub AlongBy : Held → Word → Along → Option Told → Held → Type 0
+AlongBy s x a o t = (t ≡ (respond s (asking (command.Redo a.steps))).1) × IfSome o (λ k. k ≡ told.Carried (along_in t (lead_in s x) a))
 
 -- ---- other words
 
@@ -175,6 +191,7 @@ sight_in s x = sight_at s.trail x (world_of s.trail)
 -- A word does this with a session s, which is t after it; what it did is told, unless memory for that is refused.
 abbrev pub DoneBy : Held → Word → Doing → Option Told → Held → Type 0
 DoneBy s x (Asks c) o t = CarriedBy s x c o t
+DoneBy s x (Goes a) o t = AlongBy s x a o t
 DoneBy s x Undoes o t = UndoneBy s x (last_choice s.trail) o t
 DoneBy s x (Seeks way) o t = SoughtFrom s way o t
 DoneBy s x (Follows n) o t = FollowedBy s n (numbered_from s n) o t
@@ -182,12 +199,12 @@ DoneBy s x Blames o t = BlamedBy s o t
 DoneBy s x Looks o t = (t ≡ s) × (o ≡ Some (told.Looks (sight_in s x)))
 
 -- what a word does with a session; no session holds a trail that leads nowhere
-abbrev pub doing_at : Trail → Word → Option World → Doing
-doing_at t x None = Looks
-doing_at t x (Some w) = doing_of t w x
+abbrev pub doing_at : Trail → List (Option Breakpoint) → Word → Option World → Doing
+doing_at t places x None = Looks
+doing_at t places x (Some w) = doing_of t w places x
 
 abbrev pub doing_in : Held → Word → Doing
-doing_in s x = doing_at s.trail x (world_of s.trail)
+doing_in s x = doing_at s.trail s.breaks x (world_of s.trail)
 
 abbrev pub Does : Held → Word → Option Told → Held → Type 0
 Does s x o t = DoneBy s x (doing_in s x) o t

@@ -11,11 +11,12 @@ ghost use Rattle.mpd_console.specs.Says as says;
 use crate::desk::{ConsoleDesk, Screen};
 use crate::elsewhere::break_again;
 use crate::opening::Opened;
-use crate::prompts::{laid_out, marked_bytes, prompt_in};
+use crate::prompts::{laid_out, prompt_in};
 use crate::saying::{push_break_line, push_where};
 use crate::told::{First, Numbered, NumberedList};
 use mpd_code::{Code, Subject};
 use mpd_model::{BREAKS_MAX, Breakpoint, ReadFault, Step};
+use mpd_names::Marks;
 use mpd_policy::Breaks;
 use mpd_runs::push_count;
 use mpd_session::{Command, Reply, Request, Session};
@@ -32,7 +33,7 @@ pub struct Kept {
     /// The latter, as the script that was has them.
     pub lost: NumberedList,
     /// A line for each of these, with the places of marks of that script.
-    words: Vec<u8>,
+    words: String,
 }
 
 /// What the breakpoint of a place is in another script, if it has it.
@@ -98,17 +99,21 @@ fn lost_again(
 }
 
 /// What is said of these, with the places of marks of the script that has them.
-fn lost_bytes(
+fn lost_words(
     alloc: Global,
     desk: &ConsoleDesk<'_, '_>,
     lost: &[Numbered],
-) -> Result<Vec<u8>, AllocError> {
-    let mut text = String::new(alloc);
+) -> Result<String, AllocError> {
+    let decls = desk.session().code().decls();
+    let marks = Marks {
+        script: desk.screen().script,
+    };
+    let mut words = String::new(alloc);
     for set in lost {
-        text.push_str("not set again: ")?;
-        push_break_line(&mut text, desk.session().code().decls(), *set)?;
+        words.push_str("not set again: ")?;
+        push_break_line(&mut words, decls, marks, *set)?;
     }
-    marked_bytes(alloc, desk.screen().script, &text)
+    Ok(words)
 }
 
 /// The steps that a session has taken.
@@ -132,7 +137,7 @@ pub fn keep(alloc: Global, desk: &ConsoleDesk<'_, '_>, new: &Code) -> Result<Kep
 {
     let session = desk.session();
     let lost = lost_again(alloc, session.code(), new, session.breaks())?;
-    let words = lost_bytes(alloc, desk, &lost)?;
+    let words = lost_words(alloc, desk, &lost)?;
     Ok(Kept {
         steps: steps_of(alloc, session)?,
         breaks: places_again(alloc, session.code(), new, session.breaks())?,
@@ -229,20 +234,15 @@ fn again_bytes(
     kept: &Kept,
 ) -> Result<Vec<u8>, AllocError> {
     let Screen { script, look } = screen;
-    let mut line = String::new(alloc);
-    write!(line, "{taken} of ")?;
-    push_count(&mut line, kept.steps.len())?;
-    line.push_str(" taken again\n")?;
-    let mut standing = String::new(alloc);
-    push_where(alloc, session, script, &mut standing)?;
-    let standing = marked_bytes(alloc, script, &standing)?;
-    let mut told = Vec::new(alloc);
-    told.extend_from_slice(line.as_bytes())?;
-    told.extend_from_slice(&kept.words)?;
-    told.extend_from_slice(&standing)?;
+    let mut told = String::new(alloc);
+    write!(told, "{taken} of ")?;
+    push_count(&mut told, kept.steps.len())?;
+    told.push_str(" taken again\n")?;
+    told.push_str(&kept.words)?;
+    push_where(alloc, session, script, &mut told)?;
     laid_out(
         alloc,
-        &told,
+        told.as_bytes(),
         look.width,
         prompt_in(session, look.is_prompting),
     )

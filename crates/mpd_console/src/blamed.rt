@@ -7,6 +7,7 @@ ghost use Rattle.mpd_model.specs.runs.Trail.{step_eq};
 ghost use Rattle.mpd_console.specs.Blamed as way;
 ghost use Rattle.mpd_console.specs.Blamed.{kept_limit, IsBlamed, IsWhole};
 
+use crate::along::twin_of;
 use mpd_blame::{Blame, PlacedBlame, blame_run, place_blame};
 use mpd_core::Core;
 use mpd_explore::Witnesses;
@@ -45,10 +46,8 @@ fn whole_copy<'c>(alloc: Global, debugger: &Debugger<'c>) -> Result<Debugger<'c>
     ensures { IfOk result (λ d. IsWhole debugger.now.trail d.trail) }
 {
     debugger.state_is_reached();
-    let steps = Vec::from_slice(alloc, debugger.steps())?;
-    let ahead = steps.len() - debugger.depth();
-    let mut copy = debugger.copy()?;
-    copy.put_steps(steps);
+    let ahead = debugger.steps().len() - debugger.depth();
+    let mut copy = twin_of(alloc, debugger)?;
     for _taken in 0..ahead {
         let Ok(()) = copy.redo() else {
             return Err(AllocError);

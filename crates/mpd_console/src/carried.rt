@@ -3,11 +3,13 @@
 
 ghost use Rattle.std.specs.Prelude.{◌≡◌, IfOk};
 ghost use Rattle.mpd_console.specs.Carried as spec;
+ghost use Rattle.mpd_console.specs.Along as along;
 ghost use Rattle.mpd_console.specs.Moves as moves;
-ghost use Rattle.mpd_console.specs.Says.{carried_in};
+ghost use Rattle.mpd_console.specs.Says.{along_in, carried_in};
 
+use crate::along::Along;
 use crate::lead::Lead;
-use crate::moves::{begins, single};
+use crate::moves::{ahead_of, begins, single};
 use crate::news::news_by;
 use crate::onward::is_line;
 use crate::told::{Carried, Moved, Numbered, Stopped, Went, Why};
@@ -21,8 +23,8 @@ use std::alloc::{AllocError, Global};
 // ---- why a move went no further
 
 /// At the breakpoint of a number, if there is one.
-fn stopped_at(number: usize, stop: Option<Breakpoint>) -> Stopped
-    ensures { result ≡ spec.stopped_at number stop }
+pub(crate) fn stopped_at(number: usize, stop: Option<Breakpoint>) -> Stopped
+    ensures { result ≡ along.stopped_at number stop }
 {
     match stop {
         None => Stopped::There,
@@ -40,48 +42,32 @@ fn stopped_before(number: usize, stop: Option<Breakpoint>) -> Stopped
     }
 }
 
-/// After a single step that hits no breakpoint: of a word that goes on as `run` does, after a choice.
-fn stopped_along(word: Word) -> Stopped
-    ensures { result ≡ spec.stopped_along word }
-{
-    match word {
-        Word::Run(_) | Word::Until(_) | Word::UntilRank(_) | Word::Finish(_) => {
-            Stopped::AfterChoice
-        }
-        _ => Stopped::There,
-    }
-}
-
 /// After a single step, given the lowest breakpoint that it hits.
-fn stopped_hit(breaks: &Breaks, word: Word, hit: Option<usize>) -> Stopped
-    ensures { result ≡ spec.stopped_hit breaks.now word hit }
+fn stopped_hit(breaks: &Breaks, hit: Option<usize>) -> Stopped
+    ensures { result ≡ spec.stopped_hit breaks.now hit }
 {
     match hit {
-        None => stopped_along(word),
+        None => Stopped::There,
         Some(number) => stopped_at(number, breaks.breakpoint(number)),
     }
 }
 
 /// After the step that is told, if one is. The session is as it was found. An `Err` is want of
 /// memory.
-fn stopped_step(
-    session: &mut Session<'_>,
-    word: Word,
-    step: Option<Step>,
-) -> Result<Stopped, AllocError>
-    ensures stopped { IfOk result (λ stopped. stopped ≡ spec.stopped_step session.old.trail session.old.breaks word step) }
+fn stopped_step(session: &mut Session<'_>, step: Option<Step>) -> Result<Stopped, AllocError>
+    ensures stopped { IfOk result (λ stopped. stopped ≡ spec.stopped_step session.old.trail session.old.breaks step) }
     ensures held { session.new ≡ session.old }
 {
     if step.is_none() {
         return Ok(Stopped::There);
     }
     let hit = session.last_hit()?;
-    Ok(stopped_hit(session.breaks(), word, hit))
+    Ok(stopped_hit(session.breaks(), hit))
 }
 
 /// Why a run made no more steps than it was to make.
-fn stopped_asked(word: Word) -> Stopped
-    ensures { result ≡ spec.stopped_asked word }
+pub(crate) fn stopped_asked(word: Word) -> Stopped
+    ensures { result ≡ along.stopped_asked word }
 {
     match word {
         Word::Until(line) => Stopped::AtLine(line),
@@ -151,6 +137,7 @@ fn moved(
     Ok(Moved {
         went,
         depth,
+        ahead: ahead_of(debugger),
         news,
         stopped,
     })
@@ -267,6 +254,23 @@ fn refused_by(
 
 // ---- by the reply, and the session after it
 
+/// What a move along steps ahead came to, by the session after it.
+#[tactic(auto, using(crate::proofs::DoneLemmas::carrying))]
+pub(crate) fn along_told(
+    alloc: Global,
+    session: &Session<'_>,
+    lead: Lead,
+    along: Along,
+) -> Result<Carried, AllocError>
+    ensures { IfOk result (λ carried. carried ≡ along_in session.now lead along) }
+{
+    let debugger = session.debugger();
+    debugger.state_is_reached();
+    let went = Went::On(along.steps);
+    let moved = moved(alloc, debugger, lead, went, debugger.depth(), along.stopped)?;
+    Ok(Carried::Moved(moved))
+}
+
 /// What a request came to that is done, given why a step that is told went no further.
 fn done_by(
     alloc: Global,
@@ -276,7 +280,7 @@ fn done_by(
     answer: &Answer,
     stopped: Stopped,
 ) -> Result<Carried, AllocError>
-    requires stopped { stopped ≡ spec.stopped_step debugger.now.trail breaks.now lead.word lead.step }
+    requires stopped { stopped ≡ spec.stopped_step debugger.now.trail breaks.now lead.step }
     ensures { IfOk result (λ carried. carried ≡ spec.done_by debugger.now.trail debugger.now.world breaks.now lead answer.now) }
 {
     let lines = debugger.core().code().lines();
@@ -321,7 +325,7 @@ fn carried_there(
     reply: &Reply,
     stopped: Stopped,
 ) -> Result<Carried, AllocError>
-    requires stopped { stopped ≡ spec.stopped_step session.now.trail session.now.breaks lead.word lead.step }
+    requires stopped { stopped ≡ spec.stopped_step session.now.trail session.now.breaks lead.step }
     ensures { IfOk result (λ carried. carried ≡ carried_in session.now lead reply.now) }
 {
     let debugger = session.debugger();
@@ -344,6 +348,6 @@ pub(crate) fn carried_by(
     ensures carried { IfOk result (λ carried. carried ≡ carried_in session.old lead reply.now) }
     ensures held { session.new ≡ session.old }
 {
-    let stopped = stopped_step(session, lead.word, lead.step)?;
+    let stopped = stopped_step(session, lead.step)?;
     carried_there(alloc, session, lead, reply, stopped)
 }

@@ -6,10 +6,11 @@ ghost use Rattle.mpd_runs.specs.LastChoice.{last_choice as last_choice_of};
 ghost use Rattle.mpd_session.specs.Respond.{respond};
 ghost use Rattle.mpd_console.specs.declared.told.Told.TheVariants as told;
 ghost use Rattle.mpd_console.specs.Says as spec;
-ghost use Rattle.mpd_console.specs.Says.{BlamedAs, BlamedBy, CarriedBy, Does, UndoneBy, asking, carried_of};
+ghost use Rattle.mpd_console.specs.Says.{AlongBy, BlamedAs, BlamedBy, CarriedBy, Does, UndoneBy, asking, carried_of};
 
+use crate::along::Along;
 use crate::blamed::{Decider, decider_in};
-use crate::carried::carried_by;
+use crate::carried::{along_told, carried_by};
 use crate::found::{follow, last_choice_in, seek};
 use crate::lead::{Lead, lead_of};
 use crate::looks::sight_of;
@@ -118,6 +119,31 @@ fn ask(
     })
 }
 
+/// Goes along steps ahead, and tells what that came to. An `Err` is want of memory, and then nothing
+/// has changed.
+#[tactic(auto, using(crate::proofs::DoneLemmas::along))]
+fn go_along(
+    alloc: Global,
+    session: &mut Session<'_>,
+    word: Word,
+    along: Along,
+) -> Result<Done, AllocError>
+    ensures done { IfOk result (λ d. AlongBy session.old word along d.told session.new) }
+    ensures err { OnErr result (session.new ≡ session.old) }
+{
+    let lead = lead_in(alloc, session, word)?;
+    let command = Command::Redo(along.steps);
+    let reply = session.answer(alloc, &Request { command, at: None })?;
+    drop(reply);
+    match along_told(alloc, session, lead, along) {
+        Ok(carried) => Ok(plain(Told::Carried(carried))),
+        Err(_) => Ok(Done {
+            told: None,
+            step: None,
+        }),
+    }
+}
+
 /// A word of which this is told, and which took no step that is known.
 fn plain(told: Told) -> Done
     ensures { result.told ≡ Some told }
@@ -223,7 +249,7 @@ fn doing_in(alloc: Global, session: &Session<'_>, word: Word) -> Result<Doing, A
 {
     let debugger = session.debugger();
     debugger.state_is_reached();
-    doing_of(alloc, debugger, word)
+    doing_of(alloc, debugger, session.breaks(), word)
 }
 
 /// Does a word, and tells what it did. An `Err` is want of memory, and then nothing has changed.
@@ -238,6 +264,7 @@ pub(crate) fn perform(
 {
     match doing_in(alloc, session, word)? {
         Doing::Asks(command) => ask(alloc, session, word, command),
+        Doing::Goes(along) => go_along(alloc, session, word, along),
         Doing::Undoes => undo_choice(alloc, session, word),
         Doing::Seeks(way) => Ok(plain(seek(alloc, session, way)?)),
         Doing::Follows(number) => Ok(plain(follow(alloc, session, number)?)),

@@ -5,9 +5,9 @@ ghost use Rattle.std.specs.Prelude.{◌≡◌, IfOk, slice_get};
 ghost use Rattle.mpd_model.specs.runs.Decisions.{decision};
 ghost use Rattle.mpd_console.specs.Moves as spec;
 
-use crate::moves::{ahead_of, from_one, redo_command, run_command, single};
+use crate::moves::{ahead_of, from_one, redo_command, single};
 use crate::news::{Known, known_for};
-use mpd_model::{Decision, STEPS_MAX, Step};
+use mpd_model::{Decision, Step};
 use mpd_policy::decide;
 use mpd_session::Command;
 use mpd_trail::Debugger;
@@ -82,11 +82,6 @@ fn step_of(alloc: Global, debugger: &Debugger<'_>, word: Word) -> Result<Option<
 {
     match word {
         Word::Next(number) => next_step(alloc, debugger, number),
-        Word::Run(max) => Ok(redone_step(debugger, run_command(alloc, debugger, max)?)),
-        Word::Until(_) | Word::UntilRank(_) | Word::Finish(_) => Ok(redone_step(
-            debugger,
-            run_command(alloc, debugger, STEPS_MAX)?,
-        )),
         Word::Redo(count) => Ok(redone_step(debugger, redo_command(debugger, count))),
         Word::Step(step) => Ok(Some(step)),
         _ => Ok(None),

@@ -3,6 +3,7 @@
 #![tactic(auto)]
 
 pub mod again;
+pub mod along;
 mod blamed;
 mod carried;
 pub mod desk;
@@ -10,6 +11,7 @@ pub mod done;
 mod elsewhere;
 mod found;
 mod held;
+pub mod laws;
 pub mod lead;
 pub mod looks;
 pub mod moves;
@@ -25,6 +27,7 @@ pub mod told;
 pub mod values;
 
 pub use again::{Kept, Unread, keep, refused_again, reopen};
+pub use along::Along;
 pub use desk::{ConsoleDesk, Screen};
 pub use done::Done;
 pub use lead::{Lead, lead_of};

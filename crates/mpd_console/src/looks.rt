@@ -8,11 +8,12 @@ use crate::saying::push_break_line;
 use crate::told::{Numbered, Sight};
 use mpd_core::Core;
 use mpd_explain::{
-    losses_of, push_calls, push_enabled, push_history, push_losses, push_queues, push_ranks,
-    push_why, push_why_rank, push_why_ranks, push_words,
+    enabled_steps, history_of, losses_of, pending_calls, posted_calls, push_calls, push_enabled,
+    push_history, push_losses, push_queues, push_ranks, push_why, push_why_rank, push_why_ranks,
+    push_words, why_of,
 };
 use mpd_model::{BREAKS_MAX, CallId, Decl};
-use mpd_names::{Named, push_list, push_list_about, push_named, push_variables};
+use mpd_names::{Marks, Named, all_stands, push_list, push_list_about, push_named, push_variables};
 use mpd_picture::push_picture;
 use mpd_policy::Breaks;
 use mpd_runs::push_runs;
@@ -101,19 +102,29 @@ pub fn sight_of(debugger: &Debugger<'_>, word: Word) -> Sight
 // ---- what is said of it
 
 /// Adds the lines of all breakpoints.
-fn push_all_breaks(out: &mut String, decls: &[Decl], breaks: &Breaks) -> Result<(), AllocError> {
+fn push_all_breaks(
+    out: &mut String,
+    decls: &[Decl],
+    marks: Marks<'_>,
+    breaks: &Breaks,
+) -> Result<(), AllocError> {
     for number in 0..BREAKS_MAX {
         if let Some(stop) = breaks.breakpoint(number) {
-            push_break_line(out, decls, Numbered { number, stop })?;
+            push_break_line(out, decls, marks, Numbered { number, stop })?;
         }
     }
     Ok(())
 }
 
 /// Adds the breakpoints, or that there is none.
-fn push_breaks(out: &mut String, decls: &[Decl], breaks: &Breaks) -> Result<(), AllocError> {
+fn push_breaks(
+    out: &mut String,
+    decls: &[Decl],
+    marks: Marks<'_>,
+    breaks: &Breaks,
+) -> Result<(), AllocError> {
     let mut lines = String::new(*out.allocator());
-    push_all_breaks(&mut lines, decls, breaks)?;
+    push_all_breaks(&mut lines, decls, marks, breaks)?;
     if lines.is_empty() {
         return out.push_str("no breakpoint\n");
     }
@@ -127,9 +138,10 @@ fn push_script(
     text: &[u8],
     rank: Option<usize>,
 ) -> Result<(), AllocError> {
+    let standing = all_stands(*out.allocator(), core)?;
     match rank {
-        None => push_list(core, out, text),
-        Some(rank) => push_list_about(core, out, text, rank),
+        None => push_list(out, text, &standing),
+        Some(rank) => push_list_about(out, text, &standing, rank),
     }
 }
 
@@ -137,36 +149,47 @@ fn push_script(
 fn push_print(
     core: &Core<'_>,
     out: &mut String,
+    marks: Marks<'_>,
     named: Named,
     rank: Option<usize>,
 ) -> Result<(), AllocError> {
     let Some(rank) = rank else {
         let count = core.rank_count();
         for rank in 0..count {
-            push_named(core, out, rank, named)?;
+            push_named(core, out, marks, rank, named)?;
         }
         return Ok(());
     };
-    push_named(core, out, rank, named)
+    push_named(core, out, marks, rank, named)
 }
 
 /// Adds the variables and requests of a rank, what it has printed, and its requests that are lost.
-fn push_vars_of(core: &Core<'_>, out: &mut String, rank: usize) -> Result<(), AllocError> {
+fn push_vars_of(
+    core: &Core<'_>,
+    out: &mut String,
+    marks: Marks<'_>,
+    rank: usize,
+) -> Result<(), AllocError> {
     push_variables(core, out, rank)?;
     let lost = losses_of(*out.allocator(), core, rank)?;
-    push_losses(out, &lost)
+    push_losses(out, marks, &lost)
 }
 
 /// Adds that of all ranks, or of one.
-fn push_vars(core: &Core<'_>, out: &mut String, rank: Option<usize>) -> Result<(), AllocError> {
+fn push_vars(
+    core: &Core<'_>,
+    out: &mut String,
+    marks: Marks<'_>,
+    rank: Option<usize>,
+) -> Result<(), AllocError> {
     let Some(rank) = rank else {
         let count = core.rank_count();
         for rank in 0..count {
-            push_vars_of(core, out, rank)?;
+            push_vars_of(core, out, marks, rank)?;
         }
         return Ok(());
     };
-    push_vars_of(core, out, rank)
+    push_vars_of(core, out, marks, rank)
 }
 
 /// Adds why the calls that all ranks wait for, or one, aren't matched.
@@ -174,12 +197,57 @@ fn push_why_of(
     alloc: Global,
     core: &Core<'_>,
     out: &mut String,
+    marks: Marks<'_>,
     rank: Option<usize>,
 ) -> Result<(), AllocError> {
     match rank {
-        None => push_why_ranks(alloc, core, out),
-        Some(rank) => push_why_rank(alloc, core, out, rank),
+        None => push_why_ranks(alloc, core, out, marks),
+        Some(rank) => push_why_rank(alloc, core, out, marks, rank),
     }
+}
+
+/// Adds why a call isn't matched, if there is one.
+fn push_why_call(
+    core: &Core<'_>,
+    out: &mut String,
+    marks: Marks<'_>,
+    call: CallId,
+) -> Result<(), AllocError> {
+    match why_of(*out.allocator(), core, call)? {
+        None => Ok(()),
+        Some(why) => push_why(core, out, marks, &why),
+    }
+}
+
+/// Adds the free calls.
+fn push_free(core: &Core<'_>, out: &mut String, marks: Marks<'_>) -> Result<(), AllocError> {
+    let alloc = *out.allocator();
+    let pending = pending_calls(alloc, core)?;
+    let posted = posted_calls(alloc, core)?;
+    push_queues(out, marks, &pending.items, &posted.items)
+}
+
+/// Adds what each rank is doing.
+fn push_standing(core: &Core<'_>, out: &mut String, marks: Marks<'_>) -> Result<(), AllocError> {
+    let standing = all_stands(*out.allocator(), core)?;
+    push_ranks(out, marks, &standing)
+}
+
+/// Adds the steps that are enabled.
+fn push_steps(core: &Core<'_>, out: &mut String, marks: Marks<'_>) -> Result<(), AllocError> {
+    let steps = enabled_steps(*out.allocator(), core)?;
+    push_enabled(out, core.code().decls(), marks, &steps.items)
+}
+
+/// Adds the last steps that are taken.
+fn push_last(
+    debugger: &Debugger<'_>,
+    out: &mut String,
+    marks: Marks<'_>,
+    count: usize,
+) -> Result<(), AllocError> {
+    let steps = history_of(*out.allocator(), debugger, count)?;
+    push_history(out, marks, debugger.depth(), &steps.items)
 }
 
 /// Adds the whole state.
@@ -199,21 +267,22 @@ pub(crate) fn push_sight(
 ) -> Result<(), AllocError> {
     let debugger = session.debugger();
     let core = debugger.core();
+    let marks = Marks { script };
     match sight {
-        Sight::Breaks => push_breaks(out, core.code().decls(), session.breaks()),
+        Sight::Breaks => push_breaks(out, core.code().decls(), marks, session.breaks()),
         Sight::Script(rank) => push_script(core, out, script, rank),
-        Sight::Named(named, rank) => push_print(core, out, named, rank),
-        Sight::Held(rank) => push_vars(core, out, rank),
-        Sight::Ranks => push_ranks(core, out),
-        Sight::Calls(rank) => push_calls(core, out, rank),
-        Sight::Queues => push_queues(core, out),
-        Sight::WhyCall(call) => push_why(alloc, core, out, call),
-        Sight::Why(rank) => push_why_of(alloc, core, out, rank),
-        Sight::History(count) => push_history(alloc, debugger, out, count),
+        Sight::Named(named, rank) => push_print(core, out, marks, named, rank),
+        Sight::Held(rank) => push_vars(core, out, marks, rank),
+        Sight::Ranks => push_standing(core, out, marks),
+        Sight::Calls(rank) => push_calls(core, out, marks, rank),
+        Sight::Queues => push_free(core, out, marks),
+        Sight::WhyCall(call) => push_why_call(core, out, marks, call),
+        Sight::Why(rank) => push_why_of(alloc, core, out, marks, rank),
+        Sight::History(count) => push_last(debugger, out, marks, count),
         Sight::Picture => push_picture(debugger, out),
-        Sight::Runs(runs) => push_runs(alloc, debugger, out, runs),
+        Sight::Runs(runs) => push_runs(alloc, debugger, out, marks, runs),
         Sight::Words => push_words(debugger, out),
-        Sight::Enabled => push_enabled(alloc, core, out),
+        Sight::Enabled => push_steps(core, out, marks),
         Sight::Whole => push_whole(alloc, debugger, out),
         Sight::Help(topic) => push_help(out, topic),
         Sight::NoRank => out.push_str("refused: there is no such rank\n"),
@@ -221,7 +290,10 @@ pub(crate) fn push_sight(
         Sight::NoLast => {
             out.push_str("refused: the last step is of no rank; finish P names one\n")
         }
-        Sight::NoStatement(line) => { write!(out, "refused: no statement begins at line {line}\n") }
+        Sight::NoStatement(line) => {
+            let line = marks.line(line);
+            write!(out, "refused: no statement begins at line {line}\n")
+        }
         Sight::End | Sight::Nothing => Ok(()),
     }
 }

@@ -5,12 +5,14 @@ ghost use Rattle.std.specs.List.{position};
 ghost use Rattle.mpd_console.specs.Onward as spec;
 ghost use Rattle.mpd_console.specs.Moves as moves;
 
-use crate::moves::{Doing, begins, run_command};
+use crate::along::{Goal, along_of};
+use crate::moves::{Doing, begins};
 use mpd_model::{Breakpoint, Cause, STEPS_MAX, Step, Stop};
 use mpd_names::is_blocked;
 use mpd_policy::{Breaks, run_on};
 use mpd_session::Command;
 use mpd_trail::Debugger;
+use mpd_vocabulary::Word;
 use std::alloc::{AllocError, Global};
 
 /// The last line that a breakpoint may be on.
@@ -36,7 +38,7 @@ fn on_line(line: usize) -> Breakpoint
 
 /// One breakpoint, and no other.
 #[tactic(auto, using(crate::proofs::OnwardLemmas::added_alone))]
-fn alone(stop: Breakpoint) -> Breaks
+pub(crate) fn alone(stop: Breakpoint) -> Breaks
     ensures { result ≡ spec.alone stop }
 {
     let mut breaks = Breaks::new();
@@ -73,7 +75,7 @@ fn steps_to(alloc: Global, debugger: &Debugger<'_>, stop: Breakpoint) -> Result<
 }
 
 /// Whether by a step a rank goes on that waited.
-fn frees(rank: usize, step: Step) -> bool
+pub(crate) fn frees(rank: usize, step: Step) -> bool
     ensures { result ≡ spec.frees rank step }
 {
     match step {
@@ -163,48 +165,56 @@ pub fn finish_rank(debugger: &Debugger<'_>, rank: Option<usize>) -> Option<usize
     }
 }
 
-/// A command that runs on by so many steps at most; one that takes steps that lie ahead is as it was.
-fn no_further(max: usize, command: Command) -> Command
-    ensures { result ≡ moves.no_further max command }
+/// How many steps a run on takes at most to what it goes on to.
+fn steps_on(alloc: Global, debugger: &Debugger<'_>, goal: Goal) -> Result<usize, AllocError>
+    ensures { IfOk result (λ n. n ≡ spec.steps_on debugger.now.trail debugger.now.world goal) }
 {
-    match command {
-        Command::RunOn(_) => Command::RunOn(max),
-        _ => command,
+    match goal {
+        Goal::Steps(count) => Ok(count),
+        Goal::Hit(stop) => steps_to(alloc, debugger, stop),
+        Goal::Freed(rank) => steps_to_wake(alloc, debugger, rank),
     }
 }
 
-/// What goes on as `run` does asks for, by so many steps at most.
-#[tactic(auto, unfolding(crate::specs::Moves::up_to))]
-fn up_to(alloc: Global, debugger: &Debugger<'_>, max: usize) -> Result<Command, AllocError>
-    ensures { IfOk result (λ c. c ≡ moves.up_to debugger.now.trail debugger.now.world max) }
+/// What a word does that goes on: it goes along the steps ahead, or where none is runs on.
+pub(crate) fn onward(
+    alloc: Global,
+    debugger: &Debugger<'_>,
+    breaks: &Breaks,
+    word: Word,
+    goal: Goal,
+) -> Result<Doing, AllocError>
+    ensures { IfOk result (λ doing. doing ≡ moves.onward debugger.now.trail debugger.now.world breaks.now word goal) }
 {
-    let command = run_command(alloc, debugger, STEPS_MAX)?;
-    Ok(no_further(max, command))
-}
-
-/// What `until` asks for: to go on to where a rank comes to a line.
-fn until_command(alloc: Global, debugger: &Debugger<'_>, line: usize) -> Result<Command, AllocError>
-    ensures { IfOk result (λ c. c ≡ moves.until_command debugger.now.trail debugger.now.world line) }
-{
-    if !is_line(line) {
-        return Ok(Command::Break(on_line(line)));
+    if debugger.next_undone().is_some() {
+        return Ok(Doing::Goes(along_of(alloc, debugger, breaks, word, goal)?));
     }
-    let max = steps_to(alloc, debugger, on_line(line))?;
-    up_to(alloc, debugger, max)
+    Ok(Doing::Asks(Command::RunOn(steps_on(alloc, debugger, goal)?)))
 }
 
-/// What `until` does of a line: where a statement begins at it, it goes on.
+/// What `until` does of a line: where a statement begins at it, it goes on to where a rank comes to it. What is no line is refused as a
+/// breakpoint on it is.
 pub(crate) fn until_doing(
     alloc: Global,
     debugger: &Debugger<'_>,
+    breaks: &Breaks,
     line: usize,
 ) -> Result<Doing, AllocError>
-    ensures { IfOk result (λ doing. doing ≡ moves.until_doing debugger.now.trail debugger.now.world line) }
+    ensures { IfOk result (λ doing. doing ≡ moves.until_doing debugger.now.trail debugger.now.world breaks.now line) }
 {
-    if is_line(line) && !begins(debugger.core().code().lines(), line) {
+    if !is_line(line) {
+        return Ok(Doing::Asks(Command::Break(on_line(line))));
+    }
+    if !begins(debugger.core().code().lines(), line) {
         return Ok(Doing::Looks);
     }
-    Ok(Doing::Asks(until_command(alloc, debugger, line)?))
+    onward(
+        alloc,
+        debugger,
+        breaks,
+        Word::Until(line),
+        Goal::Hit(on_line(line)),
+    )
 }
 
 /// Whether there is such a rank.
@@ -218,15 +228,16 @@ fn is_rank(debugger: &Debugger<'_>, rank: usize) -> bool
 pub(crate) fn until_rank_doing(
     alloc: Global,
     debugger: &Debugger<'_>,
+    breaks: &Breaks,
     rank: usize,
 ) -> Result<Doing, AllocError>
-    ensures { IfOk result (λ doing. doing ≡ moves.until_rank_doing debugger.now.trail debugger.now.world rank) }
+    ensures { IfOk result (λ doing. doing ≡ moves.until_rank_doing debugger.now.trail debugger.now.world breaks.now rank) }
 {
     if !is_rank(debugger, rank) {
         return Ok(Doing::Looks);
     }
-    let max = steps_to(alloc, debugger, Breakpoint::Rank(rank))?;
-    Ok(Doing::Asks(up_to(alloc, debugger, max)?))
+    let goal = Goal::Hit(Breakpoint::Rank(rank));
+    onward(alloc, debugger, breaks, Word::UntilRank(rank), goal)
 }
 
 /// Whether a step is a local one of a rank.
@@ -266,25 +277,14 @@ pub(crate) fn back_rank_doing(debugger: &Debugger<'_>, rank: usize) -> Doing
     Doing::Asks(Command::Goto(depth))
 }
 
-/// What `finish` asks for: to go on to where a rank goes on that waits.
-fn finish_command(
-    alloc: Global,
-    debugger: &Debugger<'_>,
-    rank: usize,
-) -> Result<Command, AllocError>
-    ensures { IfOk result (λ c. c ≡ moves.finish_command debugger.now.trail debugger.now.world rank) }
-{
-    let max = steps_to_wake(alloc, debugger, rank)?;
-    up_to(alloc, debugger, max)
-}
-
-/// What `finish` does of a rank: where it waits it goes on.
+/// What `finish` does of a rank: where it waits it goes on to where that rank goes on.
 pub(crate) fn finish_doing(
     alloc: Global,
     debugger: &Debugger<'_>,
+    breaks: &Breaks,
     rank: Option<usize>,
 ) -> Result<Doing, AllocError>
-    ensures { IfOk result (λ doing. doing ≡ moves.finish_doing debugger.now.trail debugger.now.world rank) }
+    ensures { IfOk result (λ doing. doing ≡ moves.finish_doing debugger.now.trail debugger.now.world breaks.now rank) }
 {
     let Some(rank) = rank else {
         return Ok(Doing::Looks);
@@ -292,5 +292,11 @@ pub(crate) fn finish_doing(
     if !is_blocked(debugger.core(), rank) {
         return Ok(Doing::Looks);
     }
-    Ok(Doing::Asks(finish_command(alloc, debugger, rank)?))
+    onward(
+        alloc,
+        debugger,
+        breaks,
+        Word::Finish(Some(rank)),
+        Goal::Freed(rank),
+    )
 }

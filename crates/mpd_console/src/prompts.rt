@@ -4,7 +4,6 @@ ghost use Rattle.std.specs.Prelude.{◌≡◌};
 ghost use Rattle.mpd_console.specs.Says.{prompted};
 
 use mpd_lines::push_folded_at;
-use mpd_marks::push_marked;
 use mpd_session::Session;
 use std::alloc::{AllocError, Global};
 use std::fmt;
@@ -46,18 +45,6 @@ pub(crate) fn prompt_in(session: &Session<'_>, is_prompting: bool) -> Prompt
     Prompt {
         depth: Some(session.debugger().depth()),
     }
-}
-
-/// A text with the places of marks of the script beside lines (docs/FROM_A_RUN.md, "Marks"). `Err`
-/// means that memory was refused.
-pub(crate) fn marked_bytes(
-    alloc: Global,
-    script: &[u8],
-    told: &str,
-) -> Result<Vec<u8>, AllocError> {
-    let mut out = Vec::new(alloc);
-    push_marked(&mut out, script, told.as_bytes())?;
-    Ok(out)
 }
 
 /// Adds the prompt to the bytes of an answer.

@@ -3,16 +3,16 @@
 
 use crate::desk::Screen;
 use crate::looks::push_sight;
-use crate::prompts::{laid_out, marked_bytes, prompt_in, push_prompt};
+use crate::prompts::{laid_out, prompt_in, push_prompt};
 use crate::told::{
     Blamed, Carried, Laid, Moved, News, Numbered, Printed, Sight, Stopped, Told, Went, Why,
 };
-use mpd_blame::Blame;
+use mpd_blame::{Blame, MarkedBlame};
 use mpd_core::Core;
-use mpd_explain::{PlacedStep, losses, position_of, push_losses, push_position};
+use mpd_explain::{MarkedStep, PlacedStep, losses, position_of, push_losses, push_position};
 use mpd_lines::push_folded_at;
 use mpd_model::{Breakpoint, Decision, Decl};
-use mpd_names::push_break;
+use mpd_names::{Marks, push_break};
 use mpd_policy::decide;
 use mpd_runs::{push_ahead, push_count, push_no_choice, push_no_run, push_none};
 use mpd_session::Session;
@@ -25,19 +25,20 @@ use std::fmt;
 pub(crate) fn push_break_line(
     out: &mut String,
     decls: &[Decl],
+    marks: Marks<'_>,
     set: Numbered,
 ) -> Result<(), AllocError> {
     let number = set.number;
     write!(out, "breakpoint {number}: ")?;
-    push_break(out, decls, set.stop)?;
+    push_break(out, decls, marks, set.stop)?;
     out.push('\n')
 }
 
 /// Adds that no statement begins at the line of a breakpoint.
-fn push_idle(out: &mut String, stop: Breakpoint) -> Result<(), AllocError> {
+fn push_idle(out: &mut String, marks: Marks<'_>, stop: Breakpoint) -> Result<(), AllocError> {
     match stop {
         Breakpoint::Line { line, .. } | Breakpoint::Match { line, .. } => {
-            write!(out, "no statement begins at line {line}\n")
+            write!(out, "no statement begins at line {}\n", marks.line(line))
         }
         Breakpoint::Rank(_) | Breakpoint::Change { .. } | Breakpoint::Handle { .. } => Ok(()),
     }
@@ -46,8 +47,8 @@ fn push_idle(out: &mut String, stop: Breakpoint) -> Result<(), AllocError> {
 // ---- the step that decided
 
 /// Adds where it was decided how a run ends, and the word that takes the other step there.
-fn push_blamed(out: &mut String, blamed: &Blamed) -> Result<(), AllocError> {
-    write!(out, "{}\n", blamed.blame)?;
+fn push_blamed(out: &mut String, marks: Marks<'_>, blamed: &Blamed) -> Result<(), AllocError> {
+    write!(out, "{}\n", MarkedBlame(blamed.blame, marks))?;
     if let Blame::At(decided) = blamed.blame.blame {
         match blamed.number {
             Some(number) => write!(out, "to try that: next {number}\n")?,
@@ -62,6 +63,7 @@ fn push_blamed(out: &mut String, blamed: &Blamed) -> Result<(), AllocError> {
 /// Adds how a word has moved, given the step if it took one that is known.
 fn push_went(
     out: &mut String,
+    marks: Marks<'_>,
     went: Went,
     step: Option<PlacedStep>,
     depth: usize,
@@ -70,7 +72,7 @@ fn push_went(
         Went::One(_) => {
             write!(out, "{depth} ")?;
             if let Some(step) = step {
-                write!(out, "{step}")?;
+                write!(out, "{}", MarkedStep(step, marks))?;
             }
             out.push('\n')
         }
@@ -118,6 +120,7 @@ fn push_printed(out: &mut String, list: &[Printed]) -> Result<(), AllocError> {
 fn push_news(
     core: &Core<'_>,
     out: &mut String,
+    marks: Marks<'_>,
     news: &News,
     decided: &Decision,
 ) -> Result<(), AllocError> {
@@ -128,23 +131,30 @@ fn push_news(
         Decision::Forced(_) | Decision::Choice(_) => {
             let alloc = *out.allocator();
             let lost = losses(alloc, core, &news.lost_before.items, &news.lost.items)?;
-            push_losses(out, &lost)
+            push_losses(out, marks, &lost)
         }
     }
 }
 
 /// Adds why a move went no further, if that isn't told by where it stands.
-fn push_stopped(out: &mut String, decls: &[Decl], stopped: Stopped) -> Result<(), AllocError> {
+fn push_stopped(
+    out: &mut String,
+    decls: &[Decl],
+    marks: Marks<'_>,
+    stopped: Stopped,
+) -> Result<(), AllocError> {
     match stopped {
         Stopped::There => Ok(()),
-        Stopped::At(set) => push_break_line(out, decls, set),
+        Stopped::At(set) => push_break_line(out, decls, marks, set),
         Stopped::Before(set) => {
             out.push_str("before ")?;
-            push_break_line(out, decls, set)
+            push_break_line(out, decls, marks, set)
         }
-        Stopped::AfterChoice => out.push_str("stopped: after the choice\n"),
+        Stopped::AheadEnds => out.push_str("stopped: the steps ahead end here\n"),
         Stopped::AsAsked => out.push_str("stopped: as many steps as were asked for\n"),
-        Stopped::AtLine(line) => write!(out, "stopped: a rank is at line {line}\n"),
+        Stopped::AtLine(line) => {
+            write!(out, "stopped: a rank is at line {}\n", marks.line(line))
+        }
         Stopped::GoneOn(rank) => write!(out, "stopped: rank {rank} has gone on\n"),
         Stopped::CallOver => out.push_str("stopped: that call is over\n"),
         Stopped::Full => out.push_str("stopped: no more than 1000000 steps are kept\n"),
@@ -162,7 +172,7 @@ pub(crate) fn push_where(
     let debugger = session.debugger();
     let decided = decide(alloc, debugger.core())?;
     let position = position_of(alloc, debugger, decided)?;
-    push_position(out, script, session.code(), &position)
+    push_position(out, script, session.code(), Marks { script }, &position)
 }
 
 /// Adds what is said of a move, given the step if it took one that is known.
@@ -176,14 +186,15 @@ fn push_moved(
 ) -> Result<(), AllocError> {
     let debugger = session.debugger();
     let core = debugger.core();
-    push_went(out, moved.went, step, moved.depth)?;
+    let marks = Marks { script };
+    push_went(out, marks, moved.went, step, moved.depth)?;
     let decided = decide(alloc, core)?;
     if let Some(news) = &moved.news {
-        push_news(core, out, news, &decided)?;
+        push_news(core, out, marks, news, &decided)?;
     }
-    push_stopped(out, core.code().decls(), moved.stopped)?;
+    push_stopped(out, core.code().decls(), marks, moved.stopped)?;
     let position = position_of(alloc, debugger, decided)?;
-    push_position(out, script, core.code(), &position)
+    push_position(out, script, core.code(), marks, &position)
 }
 
 // ---- refusals
@@ -226,9 +237,10 @@ fn push_carried(
     match carried {
         Carried::Moved(moved) => push_moved(alloc, session, script, out, moved, step),
         Carried::Added { added, is_idle } => {
-            push_break_line(out, session.code().decls(), *added)?;
+            let marks = Marks { script };
+            push_break_line(out, session.code().decls(), marks, *added)?;
             if *is_idle {
-                push_idle(out, added.stop)?;
+                push_idle(out, marks, added.stop)?;
             }
             Ok(())
         }
@@ -253,7 +265,8 @@ pub(crate) fn push_laid(
     laid: &Laid,
 ) -> Result<(), AllocError> {
     let lines = session.code().lines();
-    push_ahead(out, lines, laid.number, &laid.ending, laid.ahead)?;
+    let marks = Marks { script };
+    push_ahead(out, lines, marks, laid.number, &laid.ending, laid.ahead)?;
     push_where(alloc, session, script, out)
 }
 
@@ -273,7 +286,7 @@ fn push_told(
         Told::NoRun => push_no_run(out),
         Told::NoChoice => push_no_choice(out),
         Told::Blamed(blamed) => {
-            push_blamed(out, blamed)?;
+            push_blamed(out, Marks { script }, blamed)?;
             match &blamed.gone {
                 Some(carried) => push_carried(alloc, session, script, out, carried, None),
                 None => Ok(()),
@@ -283,24 +296,11 @@ fn push_told(
     }
 }
 
-/// How the lines of an answer are laid out.
-enum Layout {
-    /// As they are.
-    Bare,
-    /// Long ones go on in further lines.
-    Folded,
-    /// The same, and the places of marks stand beside lines of the script.
-    Marked,
-}
-
-/// How the lines are laid out that are said of a word.
-fn layout_of(told: &Told) -> Layout {
+/// Whether long lines go on in further lines that are said of a word.
+fn is_folded(told: &Told) -> bool {
     match told {
-        Told::Looks(Sight::Script(_) | Sight::Whole | Sight::Words | Sight::Picture) => {
-            Layout::Bare
-        }
-        Told::NoneEnds { .. } | Told::NoRun | Told::NoChoice => Layout::Folded,
-        Told::Looks(_) | Told::Carried(_) | Told::Laid(_) | Told::Blamed(_) => Layout::Marked,
+        Told::Looks(Sight::Script(_) | Sight::Whole | Sight::Words | Sight::Picture) => false,
+        _ => true,
     }
 }
 
@@ -317,13 +317,10 @@ pub(crate) fn told_bytes(
     let mut text = String::new(alloc);
     push_told(alloc, session, script, &mut text, told, step)?;
     let mut out = Vec::new(alloc);
-    match layout_of(told) {
-        Layout::Bare => out.extend_from_slice(text.as_bytes())?,
-        Layout::Folded => push_folded_at(&mut out, text.as_bytes(), look.width)?,
-        Layout::Marked => {
-            let marked = marked_bytes(alloc, script, &text)?;
-            push_folded_at(&mut out, &marked, look.width)?;
-        }
+    if is_folded(told) {
+        push_folded_at(&mut out, text.as_bytes(), look.width)?;
+    } else {
+        out.extend_from_slice(text.as_bytes())?;
     }
     let is_prompting = look.is_prompting && !matches!(told, Told::Looks(Sight::End));
     push_prompt(&mut out, prompt_in(session, is_prompting))?;
@@ -340,10 +337,9 @@ pub(crate) fn laid_bytes(
     let Screen { script, look } = screen;
     let mut text = String::new(alloc);
     push_laid(alloc, session, script, &mut text, laid)?;
-    let marked = marked_bytes(alloc, script, &text)?;
     laid_out(
         alloc,
-        &marked,
+        text.as_bytes(),
         look.width,
         prompt_in(session, look.is_prompting),
     )

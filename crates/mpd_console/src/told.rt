@@ -77,8 +77,8 @@ pub enum Stopped {
     At(Numbered),
     /// The step that it took back last hits this breakpoint.
     Before(Numbered),
-    /// It has taken the step that lay ahead at a choice, and looks no further.
-    AfterChoice,
+    /// It has taken all steps that lay ahead.
+    AheadEnds,
     /// As many steps were made as were asked for.
     AsAsked,
     /// A rank is at this line.
@@ -100,6 +100,8 @@ pub struct Moved {
     pub went: Went,
     /// How many steps are not undone after it, 0 to 1,000,000.
     pub depth: usize,
+    /// How many steps lie ahead after it, 0 to 1,000,000.
+    pub ahead: usize,
     /// What its steps brought, if more steps are taken than before it.
     pub news: Option<News>,
     /// Why it went no further.

@@ -1,8 +1,7 @@
 use Rattle.std.proofs.Common.{ap, sym}
 use Rattle.mpd_model.specs.declared.limits.TheConstants.{STEPS_MAX}
 use Rattle.mpd_policy.specs.Single.{ran_on}
-use Rattle.mpd_console.proofs.MoveLemmas.{is_there}
-use Rattle.mpd_console.proofs.OnwardLemmas.{wake_is}
+use Rattle.mpd_console.proofs.OnwardLemmas.{is_there, wake_is}
 use Rattle.mpd_console.proofs.onward.steps_to_wake.Goals as goal
 
 pub steps_since-requires : goal.steps_since-requires
