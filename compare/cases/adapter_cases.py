@@ -15,7 +15,7 @@ from cases.console_cases import (ALL_HABITS, BLAMING, MODES_DRAWN, Talk, ahead_i
 from cases.session_cases import in_pieces, is_short
 from cases.session_lines import BAD_BYTES, BEYOND, BLANKS, FLOATS, NEGATIVE, NO_JSON, NO_OBJECTS, OTHER_VALUES, TOO_LARGE, quoted
 from model import console_lines, debugger, policy
-from model.adapter import OF_VALUES, SCOPES, Adapter, dap, message_of
+from model.adapter import OF_LINES, SCOPES, Adapter, dap, message_of
 from model.console import NO_FILE, NamedRun
 from model.debugger import RENDEZVOUS
 from model.files import held
@@ -179,15 +179,16 @@ class Editor:
             expression = ' '.join(self.talk.expression()) if self.chance(0.5) else self.talk.name()
             if self.chance(0.05):
                 expression = self.random.choice(['', ' ', '0', '1 2', '"', '\u00e9', 'x\ny', '#', 'x; y'])
-            return {'expression': expression, 'context': self.random.choice(['hover', 'watch']), **frame}
+            context = self.random.choice([{}, *({'context': it} for it in ('hover', 'watch', 'hover', 'watch', 'clipboard', 'variables', '', 'Repl', None))])
+            return {'expression': expression, **context, **frame}
         line = self.talk.line()
         line = b'ranks' if self.talk.is_long(line) else line
         if self.chance(0.03):
-            return {'expression': self.random.choice(LONG_EXPRESSIONS), **frame}
+            return {'expression': self.random.choice(LONG_EXPRESSIONS), **self.random.choice([{}, {'context': OF_LINES}]), **frame}
         if self.chance(0.03):
-            return {'expression': self.random.choice(['quit', 'q', 'ranks\r', 'ranks\n', '\nranks', 'ranks\nnext', 'help\x00', '# \u00e9'])}
-        context = {'context': self.random.choice(['repl', 'repl', 'repl', 'clipboard', 'variables', '', 'Hover'])} if self.chance(0.8) else {}
-        return {'expression': line.decode('latin-1'), **context, **frame}
+            line = self.random.choice(['quit', 'q', 'ranks\r', 'ranks\n', '\nranks', 'ranks\nnext', 'help\x00', '# \u00e9'])
+            return {'expression': line, 'context': OF_LINES}
+        return {'expression': line.decode('latin-1'), 'context': OF_LINES, **frame}
 
     def arguments(self, command):
         """What a command has beside its name."""
@@ -215,7 +216,7 @@ class Editor:
     def is_long(self, command, arguments):
         """Whether a move may take the model more steps than it should."""
         walked, breaks = self.talk.walked, self.adapter.session.breaks
-        if command == 'stepIn' and 'targetId' in arguments and isinstance(self.adapter.console.decided, Forced):
+        if command == 'stepIn' and arguments.get('targetId') is not None and isinstance(self.adapter.console.decided, Forced):
             return LONGEST_RUN < arguments['targetId'] <= debugger.MOST_STEPS and not is_short(walked, breaks)
         if command in ('next', 'stepOut'):
             return not is_short(walked, policy.Breaks())
@@ -284,9 +285,9 @@ class Editor:
     def is_within(self, body):
         """Whether a body asks for no more than the model should do."""
         message = message_of(body)
-        if message is None or type(message.arguments.get('targetId', 1)) is not int:
+        if message is None or type(message.arguments.get('targetId', 1)) not in (int, type(None)):
             return True
-        if message.command == 'evaluate' and type(message.arguments.get('expression')) is str and message.arguments.get('context') not in OF_VALUES:
+        if message.command == 'evaluate' and type(message.arguments.get('expression')) is str and message.arguments.get('context') == OF_LINES:
             return not self.talk.is_long(message.arguments['expression'].encode())
         return not self.is_long(message.command, message.arguments)
 

@@ -3,7 +3,7 @@
 import json
 from typing import NamedTuple, Optional
 
-from model.adapter import AT_BREAKPOINT, FIELDS, OF_VALUES, REFUSALS, SCOPES, UNKNOWN_COMMAND, Message, message_of
+from model.adapter import AT_BREAKPOINT, FIELDS, OF_LINES, REFUSALS, SCOPES, UNKNOWN_COMMAND, Message, message_of
 from model.frames import frames_of
 
 MOVES = 'continue', 'next', 'stepIn', 'stepOut', 'stepBack', 'reverseContinue', 'restart'
@@ -48,7 +48,7 @@ MUST_MEET = (
     'targets of a rank', 'no targets', 'several targets', 'another line than the wanted one', 'no such line', 'a bad condition', 'another script',
     '64 breakpoints', 'a condition that is good', 'breakpoints that are left out',
     *(f'{name} of a rank' for name in SCOPES), 'a request that holds no call', 'a value below 0', 'a frame that is a label', 'a name that is no ASCII',
-    'a value of all ranks', 'a value of the rank of a frame', 'an expression that is none', 'an answer that is empty', 'a word that moves',
+    'a value of all ranks', 'a value of the rank of a frame', 'evaluate refused as no-value', 'an array', 'an expression that traps', 'an answer that is empty', 'a word that moves',
     'a word that changes nothing', 'an empty expression',
     'an explanation', 'nothing that is explained', 'a number of 64 bits', 'steps ahead from the start', 'ended: whole', 'ended: cut-off', 'ended: frame')
 
@@ -77,9 +77,9 @@ def met_in_move(exchange):
 
 def met_in_breakpoints(message, body):
     found = []
-    for wanted, told in zip(message.arguments.get('breakpoints', ()), body['breakpoints']):
+    for wanted, told in zip(message.arguments.get('breakpoints') or (), body['breakpoints']):
         if told['verified']:
-            has_condition = bool(wanted.get('condition', '').strip())
+            has_condition = bool((wanted.get('condition') or '').strip())
             found += ['another line than the wanted one'] * (wanted['line'] != told['line']) + ['a condition that is good'] * has_condition
         else:
             found.append({'no statement begins there or below': 'no such line', 'bad condition': 'a bad condition', 'another script': 'another script'}.get(
@@ -98,11 +98,10 @@ def met_in_value(exchange, body):
     """What is met in what an expression, or a line of the console, is answered."""
     message, result = exchange.message, body['result']
     found = ['an answer that is empty'] * (result == '') + ['an empty expression'] * (message.arguments['expression'].strip() == '')
-    if message.arguments.get('context') not in OF_VALUES:
+    if message.arguments.get('context') == OF_LINES:
         return found + ['a word that moves' if len(exchange.frames) > 1 else 'a word that changes nothing']
-    if not result.startswith('rank '):
-        return found + ['an expression that is none']
-    return found + ['a value of the rank of a frame' if 'frameId' in message.arguments else 'a value of all ranks']
+    found += ['an array'] * ('[' in result) + ['an expression that traps'] * ('traps: ' in result)
+    return found + ['a value of all ranks' if message.arguments.get('frameId') is None else 'a value of the rank of a frame']
 
 
 def met_in_body(exchange, body):

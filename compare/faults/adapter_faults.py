@@ -77,9 +77,17 @@ def strict_fields(command, arguments):
     return fields_of(command, arguments)
 
 
+def nulls_kept(command, arguments):
+    """What takes a field that is null for one that is there."""
+    must_be(None not in arguments.values())
+    return fields_of(command, arguments)
+
+
 def nulls_left_out(command, arguments):
-    """What takes a field that is null for one that isn't there."""
-    return fields_of(command, {name: value for name, value in arguments.items() if value is not None})
+    """What takes a field that must be there for one that may be, if it is null."""
+    must, _ = FIELDS[command]
+    must_be(set(must) <= set(arguments))
+    return fields_of(command, {**{name: 1 for name in must}, **{name: value for name, value in arguments.items() if value is not None}})
 
 
 def answered(self, body):
@@ -102,8 +110,14 @@ def message_by(change):
     return message_of
 
 
-def null_arguments(value):
-    return without(value, 'arguments') if value.get('arguments', 0) is None else value
+def no_null_arguments(value):
+    """A message that is none if its arguments are null."""
+    return {} if value.get('arguments', 0) is None else value
+
+
+def objects_alone(value):
+    """A message that is none if its arguments are no object."""
+    return value if isinstance(value.get('arguments', {}), dict) else {}
 
 
 def without(value, name):
@@ -170,7 +184,8 @@ def message_faults():
     return [
         *named('message_of', {
             'events are answered': message_by(lambda value: {**value, 'type': 'request'}),
-            'null arguments are none': message_by(null_arguments),
+            'null arguments are no message': message_by(no_null_arguments),
+            'arguments that are no object are no message': message_by(objects_alone),
             'no arguments are no message': lambda body: SOUND_MESSAGE_OF(body) if b'arguments' in body else None,
             'a message without a number has 0': message_by(lambda value: {'seq': 0, **value}),
             '1.0 is whole': message_by(whole_floats)}, adapter),
@@ -180,7 +195,7 @@ def message_faults():
         Breakage('a body nested less deep', json_text, 'DEEPEST', 126),
         *named('done', {'the phase before the command': done_in(['phase', 'known', 'fields']),
             'fields before the phase': done_in(['known', 'fields', 'phase'])}),
-        *named('fields_of', {'numbers before fields': numbers_first, 'no other field may stand there': strict_fields, 'null is no field': nulls_left_out},
+        *named('fields_of', {'numbers before fields': numbers_first, 'no other field may stand there': strict_fields, 'null is a field': nulls_kept, 'null is any field': nulls_left_out},
             adapter),
         Breakage('lines may start at 0', adapter, 'FIELDS', {**FIELDS, 'initialize': ({}, {'linesStartAt1': lambda value: value})}),
         Breakage('lines must start at 1', adapter, 'FIELDS', {**FIELDS, 'initialize': ({'linesStartAt1': adapter.true_in}, {})}),

@@ -303,16 +303,43 @@ def release_of_first(self, reason, thread):
 def evaluated(result=lambda told: told.removesuffix('\n'), moves=lambda self, before, depth: self.session.version != before):
     """What answers a line otherwise, and tells of another stop."""
     def evaluate(self, expression, context=None, frame=None):
+        if context != adapter.OF_LINES:
+            return SOUND['evaluate'](self, expression, context, frame)
         before, depth = self.session.version, self.console.debugger.depth
-        told = adapter.shown(self.console.answer(self.line_of(expression, context, frame)))
+        told = adapter.shown(self.console.answer(expression.encode()))
         return {'result': result(told), 'variablesReference': 0}, [self.stopped(GONE_TO)] if moves(self, before, depth) else []
     return evaluate
 
 
-def line_with(is_value=lambda context: context in adapter.OF_VALUES, rank=lambda frame: '' if frame is None else f' {frame - 1}'):
-    def line_of(self, expression, context, frame):
-        return f'print {expression}{rank(frame)}'.encode() if is_value(context) else expression.encode()
-    return line_of
+def as_line(is_line):
+    """What takes expressions for lines in other contexts."""
+    return lambda self, expression, context=None, frame=None: SOUND['evaluate'](self, expression, adapter.OF_LINES if is_line(context) else 'watch', frame)
+
+
+def of_frame(change):
+    """What tells an expression for another frame."""
+    return lambda self, text, frame: SOUND['value_of'](self, text, change(frame))
+
+
+def worths_by(change):
+    """What finds other values of an expression."""
+    return lambda self, text, meant: change(SOUND['values'](self, text, meant))
+
+
+def named_never(self, text, meant):
+    """A name is an expression, so that an array and a request have no value."""
+    return self.values(text, meant)
+
+
+def without_rank_behind(self, text, meant):
+    """A number that stands behind an expression is passed over."""
+    return [(rank, value) for rank in meant for _, value in SOUND['values'](self, text, range(len(self.world.ranks)))[:1]]
+
+
+def bracketed(self, rank, named):
+    """One cell stands in brackets, too."""
+    told = SOUND['held'](self, rank, named)
+    return told if told.startswith('[') else f'[{told}]'
 
 
 def quitting(self, expression, context=None, frame=None):
@@ -460,11 +487,18 @@ def event_faults():
             'never stopped': evaluated(moves=lambda self, before, depth: False),
             'stopped at another depth': evaluated(moves=lambda self, before, depth: self.console.debugger.depth != depth),
             'quit ends it': quitting}),
-        *named('line_of', {
-            'a hover is a line': line_with(lambda context: context == 'watch'), 'a watch is a line': line_with(lambda context: context == 'hover'),
-            'all are values': line_with(lambda context: context is not None),
-            'of all ranks': line_with(rank=lambda frame: ''), 'the frame as a rank': line_with(rank=lambda frame: '' if frame is None else f' {frame}'),
-            'of the first rank': line_with(rank=lambda frame: f' {(frame or 1) - 1}')}),
+        *named('evaluate', {
+            'a hover is a line': as_line(lambda context: context in ('repl', 'hover')), 'a watch is a line': as_line(lambda context: context in ('repl', 'watch')),
+            'what has no context is a line': as_line(lambda context: context in ('repl', None)), 'all are lines': as_line(lambda context: True),
+            'all are values': as_line(lambda context: False)}),
+        *named('value_of', {
+            'of all ranks': of_frame(lambda frame: None), 'of the rank before': of_frame(lambda frame: None if frame is None else max(1, frame - 1)),
+            'of the first rank': of_frame(lambda frame: frame or 1)}),
+        *named('worths', {'a name is an expression': named_never}),
+        *named('values', {'what is none is empty': worths_by(lambda found: found or [(0, '')]), 'a trap is none': worths_by(lambda found: [it for it in found if ':' not in it[1]]),
+            'a rank behind it is passed over': without_rank_behind}),
+        *named('held', {'brackets round one cell': bracketed}),
+        Breakage('an array of 2 cells at most', adapter, 'CELLS_TOLD', 1),
         Breakage('runs that are laid ahead change nothing', adapter.Asking, 'laid_ahead', adapter.Console.laid_ahead),
         Breakage('a breakpoint changes nothing', adapter.Versioned, 'set_break', session.Session.set_break),
         Breakage('to go where it is changes nothing', adapter.Versioned, 'goto', gone_elsewhere)]

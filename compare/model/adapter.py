@@ -7,27 +7,30 @@ compare/rows/worked_adapter.py has rows of it, and compare/runs/adapters.py comp
 import json
 from typing import NamedTuple, Optional
 
-from model import console_lines, explaining, policy, session
+from model import console_lines, console_values, explaining, policy, session
 from model.console import Console, Look, begun, text_of
-from model.console_words import Asked, NotAsked, read_line
-from model.debugger import RENDEZVOUS, CallId, Result, call_line
+from model.console_words import Asked, NotAsked, read_line, words_of
+from model.debugger import BAD_FILE, RENDEZVOUS, CallId, Result, call_line
 from model.frames import CUT_OFF, WHOLE, frame_of, frames_of
 from model.json_text import LARGEST_UNSIGNED, NoJson, read_json
+from model.language import Trap, View, evaluate
 from model.policy import Choice, LineBreak
 from model.session import Session
 
-UNKNOWN_COMMAND, BAD_FIELD, NOT_LAUNCHED, LAUNCHED, BAD_NUMBER, NOT_ENDED = (
-    'unknown-command', 'bad-field', 'not-launched', 'launched', 'bad-number', 'not-ended')
-REFUSALS = UNKNOWN_COMMAND, NOT_LAUNCHED, LAUNCHED, BAD_FIELD, BAD_NUMBER, NOT_ENDED
+UNKNOWN_COMMAND, BAD_FIELD, NOT_LAUNCHED, LAUNCHED, BAD_NUMBER, NOT_ENDED, NO_VALUE, NOT_READ = (
+    'unknown-command', 'bad-field', 'not-launched', 'launched', 'bad-number', 'not-ended', 'no-value', 'not-read')
+REFUSALS = UNKNOWN_COMMAND, NOT_LAUNCHED, LAUNCHED, BAD_FIELD, BAD_NUMBER, NOT_ENDED, NO_VALUE
 # How wide lines are before they wrap, and how many bytes an expression has at most.
 WIDTH, LONGEST_EXPRESSION = 1000, 4000
+# How many cells of an array are told as its value.
+CELLS_TOLD = 16
 # What the adapter can.
 CAPABILITIES = ('supportsConditionalBreakpoints', 'supportsConfigurationDoneRequest', 'supportsEvaluateForHovers', 'supportsExceptionInfoRequest',
-                'supportsRestartRequest', 'supportsStepBack', 'supportsStepInTargetsRequest', 'supportsTerminateRequest')
+                'supportsStepBack', 'supportsStepInTargetsRequest', 'supportsTerminateRequest')
 # The scopes of a frame, in their order, and what is told of a request that holds no call.
 SCOPES, NO_CALL = ('Variables', 'Requests', 'Calls', 'Printed'), 'none'
-# In which contexts an expression is a value, and no line of the console.
-OF_VALUES = 'hover', 'watch'
+# In which context an expression is a line of the console.
+OF_LINES = 'repl'
 # Commands that are answered before `launch` is.
 BEFORE_LAUNCH = 'initialize', 'launch', 'disconnect', 'terminate'
 NO_STATEMENT, BAD_CONDITION, BREAKS_FULL, ANOTHER_SCRIPT = (
@@ -41,16 +44,21 @@ FRAME_ERROR = b'mpdbg: frame\n'
 # What the adapter can by commands that a program may not know yet.
 OF_COMMANDS = {
     'setBreakpoints': 'supportsConditionalBreakpoints', 'configurationDone': 'supportsConfigurationDoneRequest', 'evaluate': 'supportsEvaluateForHovers',
-    'exceptionInfo': 'supportsExceptionInfoRequest', 'restart': 'supportsRestartRequest', 'stepBack': 'supportsStepBack',
+    'exceptionInfo': 'supportsExceptionInfoRequest', 'stepBack': 'supportsStepBack',
     'stepInTargets': 'supportsStepInTargetsRequest', 'terminate': 'supportsTerminateRequest'}
 
 
 class Refused(Exception):
     """A message is refused, by a name."""
 
-    def __init__(self, name):
+    def __init__(self, name, told=None):
         super().__init__(name)
-        self.name = name
+        self.name, self.told = name, told
+
+    @property
+    def more(self):
+        """What a person is told of it, as a body; nothing where nothing is."""
+        return {} if self.told is None else {'body': {'error': {'format': self.told, 'id': 1, 'showUser': True}}}
 
 
 # ---- messages
@@ -75,8 +83,9 @@ def message_of(body):
         return None
     if type(value) is not dict or value.get('type') != 'request':
         return None
-    found = Message(value.get('seq'), value.get('command'), value.get('arguments', {}))
-    return found if is_number(found.seq) and type(found.command) is str and type(found.arguments) is dict else None
+    given = value.get('arguments')
+    found = Message(value.get('seq'), value.get('command'), given if type(given) is dict else {})
+    return found if is_number(found.seq) and type(found.command) is str else None
 
 
 def must_be(holds, name=BAD_FIELD):
@@ -118,7 +127,8 @@ class Wanted(NamedTuple):
 
 def wanted_in(value):
     must_be(type(value) is dict and 'line' in value)
-    return Wanted(number_in(value['line']), text_in(value['condition']) if 'condition' in value else None)
+    condition = value.get('condition')
+    return Wanted(number_in(value['line']), None if condition is None else text_in(condition))
 
 
 def all_wanted_in(value):
@@ -150,7 +160,8 @@ def fields_of(command, arguments):
     """The fields of a command, as they are read."""
     must, may = FIELDS[command]
     must_be(set(must) <= set(arguments))
-    return {name: read(arguments[name]) for name, read in {**must, **may}.items() if name in arguments}
+    there = {**{name: arguments[name] for name in must}, **{name: arguments[name] for name in may if arguments.get(name) is not None}}
+    return {name: read(there[name]) for name, read in {**must, **may}.items() if name in there}
 
 
 # ---- frames that are written
@@ -275,7 +286,7 @@ class Adapter:
         try:
             body, events = self.done(message)
         except Refused as refused:
-            return [{**head, 'success': False, 'message': refused.name}]
+            return [{**head, 'success': False, 'message': refused.name, **refused.more}]
         return [{**head, 'success': True, 'body': body}, *events]
 
     def done(self, message):
@@ -491,17 +502,70 @@ class Adapter:
     def restart(self):
         return {}, self.moved(self.say('goto', 0), GONE_TO)
 
+    # ---- expressions
+
     def evaluate(self, expression, context=None, frame=None):
+        """What the console answers to a line, or what an expression comes to."""
+        if context != OF_LINES:
+            return {'result': self.value_of(expression.encode(), frame), 'variablesReference': 0}, []
         before = self.session.version
-        told = shown(self.console.answer(self.line_of(expression, context, frame)))
+        told = shown(self.console.answer(expression.encode()))
         body = {'result': told.removesuffix('\n'), 'variablesReference': 0}
         return body, [self.stopped(GONE_TO)] if self.session.version != before else []
 
-    def line_of(self, expression, context, frame):
-        """The line of the console that an expression stands for."""
-        if context not in OF_VALUES:
-            return expression.encode()
-        return f'print {expression}{"" if frame is None else f" {frame - 1}"}'.encode()
+    def value_of(self, text, frame):
+        """What an expression comes to, for the rank of a frame, or for each by a line."""
+        if frame is None:
+            found = [f'rank {rank}: {value}' for rank, value in self.worths(text, range(len(self.world.ranks)))]
+        else:
+            found = [value for _, value in self.worths(text, [frame - 1])]
+        must_be(found, NO_VALUE)
+        return '\n'.join(found)
+
+    def worths(self, text, meant):
+        """What an expression comes to for each of the ranks that are meant: a name is what they hold there. Nothing where it is none."""
+        try:
+            named = self.console.meant(*words_of(text))
+        except (NotAsked, TypeError):
+            return self.values(text, meant)
+        return [(rank, self.held(rank, named)) for rank in meant]
+
+    def held(self, rank, named):
+        """What a rank holds in the cells that a name means, in brackets unless that is one."""
+        there = self.world.ranks[rank]
+        numbers = [named.declared.first + place for place in named.places]
+        if named.declared.kind == 'var':
+            told = [str(there.cells[number]) for number in numbers]
+        else:
+            told = [NO_CALL if there.handles[number] is None else str(CallId(rank, there.handles[number])) for number in numbers]
+        return told[0] if len(told) == 1 else f'[{", ".join(told[:CELLS_TOLD])}{", .." * (len(told) > CELLS_TOLD)}]'
+
+    def values(self, text, meant):
+        """The values that an expression has for the ranks that are meant; a number behind it is a rank that it is of alone."""
+        try:
+            expression, of = console_values.value_asked(text, self.names)
+        except NotAsked:
+            return []
+        return [(rank, self.value_for(rank, expression)) for rank in meant if of is None or of == rank]
+
+    def value_for(self, rank, expression):
+        try:
+            return str(evaluate(expression, View(self.world.ranks[rank].cells, rank, len(self.world.ranks))))
+        except Trap as trap:
+            return f'traps: {trap.name}'
+
+
+class Unread(Adapter):
+    """What answers where the script is refused, or can't be read: a `launch` fails, and a person is told why."""
+
+    def __init__(self, why):
+        self.why, self.path, self.written, self.is_over = why, None, 0, False
+
+    def test_numbers(self, fields):
+        """There is no rank, and nothing that is answered names one."""
+
+    def launch(self, program):
+        raise Refused(NOT_READ, self.why)
 
 
 def unset(wanted, why):
@@ -537,7 +601,18 @@ def served(adapter, data):
     return Result(b''.join(told), error_of(end), 0 if end == WHOLE else 3)
 
 
+def unread(text, there):
+    """What a person is told of a script that there is no console of, by what the program says at its end; None where another thing is wrong."""
+    line = there.errors.decode().removesuffix('\n')
+    if text is None and there == BAD_FILE:
+        return f'{line}: no such file'
+    return line if line.startswith('mpdbg: script refused ') else None
+
+
 def dap(text, data, mode=RENDEZVOUS, witness=None, run=None):
     """The result for a script and an input of frames."""
     there = begun(text, mode, witness, run)
-    return served(Adapter(there), data) if isinstance(there, Console) else there
+    if isinstance(there, Console):
+        return served(Adapter(there), data)
+    why = unread(text, there)
+    return there if why is None else Result(served(Unread(why), data).output, there.errors, there.status)

@@ -11,7 +11,7 @@ it stands, and takes no number. What stands below are the frames that answer it,
     < result            the response to `evaluate` with the same text, without its last line feed
     < stopped R/D/T     the event with this reason, this description and this thread
 
-They are written as docs/ADAPTER.md has them ("Frames and messages", "Moves").
+They are written as docs/ADAPTER.md has them ("Frames and messages", "Stops").
 """
 
 import json
@@ -132,7 +132,9 @@ class Talk:
 
 
 def text_of(script):
-    """The text of a script, which is an example or stands there."""
+    """The text of a script, which is an example or stands there; None where there is none."""
+    if script is None:
+        return None
     return open_example(script) if script.endswith('.mpd') else script.encode()
 
 

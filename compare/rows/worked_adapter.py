@@ -11,7 +11,7 @@ from rows.worked_adapter_runs import RUNS
 
 BEGUN = '''
 > initialize {"clientID": "x", "linesStartAt1": true, "columnsStartAt1": true}
-< ok {"supportsConditionalBreakpoints":true,"supportsConfigurationDoneRequest":true,"supportsEvaluateForHovers":true,"supportsExceptionInfoRequest":true,"supportsRestartRequest":true,"supportsStepBack":true,"supportsStepInTargetsRequest":true,"supportsTerminateRequest":true}
+< ok {"supportsConditionalBreakpoints":true,"supportsConfigurationDoneRequest":true,"supportsEvaluateForHovers":true,"supportsExceptionInfoRequest":true,"supportsStepBack":true,"supportsStepInTargetsRequest":true,"supportsTerminateRequest":true}
 > launch {"program": "/home/a b/first.mpd", "noDebug": false}
 < ok {}
 < event initialized {}
@@ -22,7 +22,7 @@ SENDS, RECEIVES = '    6    send 7 to 1 tag 0;', '    8    recv x from 0 tag 0;'
 FIRST = (
     dialogue('the first message, each byte as it is written', 'first_message.mpd', '''
 >> {"seq": 1, "type": "request", "command": "initialize", "arguments": {"linesStartAt1": true}}
-<< {"body":{"supportsConditionalBreakpoints":true,"supportsConfigurationDoneRequest":true,"supportsEvaluateForHovers":true,"supportsExceptionInfoRequest":true,"supportsRestartRequest":true,"supportsStepBack":true,"supportsStepInTargetsRequest":true,"supportsTerminateRequest":true},"command":"initialize","request_seq":1,"seq":1,"success":true,"type":"response"}
+<< {"body":{"supportsConditionalBreakpoints":true,"supportsConfigurationDoneRequest":true,"supportsEvaluateForHovers":true,"supportsExceptionInfoRequest":true,"supportsStepBack":true,"supportsStepInTargetsRequest":true,"supportsTerminateRequest":true},"command":"initialize","request_seq":1,"seq":1,"success":true,"type":"response"}
 >> {"seq": 2, "type": "request", "command": "launch", "arguments": {"program": "/first.mpd"}}
 << {"body":{},"command":"launch","request_seq":2,"seq":2,"success":true,"type":"response"}
 << {"body":{},"event":"initialized","seq":3,"type":"event"}
@@ -197,21 +197,21 @@ FIRST = (
 | breakpoint 3: line 9 rank 1 if x == 7
 | breakpoint 4: line 9 if x > 6
 | breakpoint 5: line 9
-> evaluate {{"expression": "break match 8"}}
+> evaluate {{"expression": "break match 8", "context": "repl"}}
 < result
 | breakpoint 6: match 8
 < stopped entry/start/1
-> evaluate {{"expression": "break rank 0"}}
+> evaluate {{"expression": "break rank 0", "context": "repl"}}
 < result
 | breakpoint 7: rank 0
 < stopped entry/start/1
-> evaluate {{"expression": "break 8"}}
+> evaluate {{"expression": "break 8", "context": "repl"}}
 < result
 | breakpoint 8: line 8
 < stopped entry/start/1
 > setBreakpoints {{"source": {{"path": "/home/a b/first"}}, "breakpoints": [{{"line": 5}}, {{"line": 0, "condition": "y"}}]}}
 < ok {{"breakpoints":[{{"line":5,"message":"another script","verified":false}},{{"line":0,"message":"another script","verified":false}}]}}
-> evaluate {{"expression": "breaks"}}
+> evaluate {{"expression": "breaks", "context": "repl"}}
 < result
 | breakpoint 0: line 5
 | breakpoint 1: line 9 rank 1
@@ -224,18 +224,18 @@ FIRST = (
 | breakpoint 8: line 8
 > setBreakpoints {{"source": {{"path": "/home/a b/first.mpd"}}, "breakpoints": [{{"line": 0}}]}}
 < ok {{"breakpoints":[{{"id":1,"line":5,"verified":true}}]}}
-> evaluate {{"expression": "breaks"}}
+> evaluate {{"expression": "breaks", "context": "repl"}}
 < result
 | breakpoint 0: line 5
 | breakpoint 6: match 8
 | breakpoint 7: rank 0
 > setBreakpoints {{"source": {{"path": "/home/a b/first.mpd", "name": "first"}}}}
 < ok {{"breakpoints":[]}}
-> evaluate {{"expression": "breaks"}}
+> evaluate {{"expression": "breaks", "context": "repl"}}
 < result
 | breakpoint 6: match 8
 | breakpoint 7: rank 0
-> evaluate {{"expression": "delete 7"}}
+> evaluate {{"expression": "delete 7", "context": "repl"}}
 < result
 | deleted 7
 < stopped entry/start/1
@@ -275,30 +275,63 @@ FIRST = (
     dialogue('64 breakpoints', 'first_message.mpd', f'''{BEGUN}
 > setBreakpoints {{"source": {{"path": "/home/a b/first.mpd"}}, "breakpoints": [{', '.join(['{"line": 9}'] * 65)}, {{"line": 10}}, {{"line": 9, "condition": "z"}}]}}
 < ok {{"breakpoints":[{','.join(f'{{"id":{number},"line":9,"verified":true}}' for number in range(1, 65))},{{"line":9,"message":"64 breakpoints are set","verified":false}},{{"line":10,"message":"no statement begins there or below","verified":false}},{{"line":9,"message":"bad condition","verified":false}}]}}
-> evaluate {{"expression": "break 5"}}
+> evaluate {{"expression": "break 5", "context": "repl"}}
 < result
 | refused: 64 breakpoints are set
 '''),
     dialogue('lines of the console, and values', 'first_message.mpd', f'''{BEGUN}
 > evaluate {{"expression": "x", "context": "hover", "frameId": 2}}
 < result
-| rank 1: x = 0
+| 0
 > evaluate {{"expression": "x + rank", "context": "watch"}}
 < result
-| rank 0: x + rank = 0
-| rank 1: x + rank = 1
+| rank 0: 0
+| rank 1: 1
+> evaluate {{"expression": "x + rank", "context": "watch", "frameId": 2}}
+< result
+| 1
+> evaluate {{"expression": " x ", "frameId": 1}}
+< result
+| 0
+> evaluate {{"expression": "x"}}
+< result
+| rank 0: 0
+| rank 1: 0
+> evaluate {{"expression": "x - 3", "context": "clipboard", "frameId": 1}}
+< result
+| -3
+> evaluate {{"expression": "x + 5 1", "context": "variables"}}
+< result
+| rank 1: 5
+> evaluate {{"expression": "x + 5 1", "context": "watch", "frameId": 2}}
+< result
+| 5
+> evaluate {{"expression": "x + 5 1", "context": "watch", "frameId": 1}}
+< no no-value
+> evaluate {{"expression": "x + 5 2"}}
+< no no-value
+> evaluate {{"expression": "x / x", "frameId": 1}}
+< result
+| traps: zero-divisor
 > evaluate {{"expression": "x +", "context": "watch", "frameId": 1}}
-< result
-| rank 0: x + 0 = 0
-| rank 1: x + 0 = 0
+< no no-value
 > evaluate {{"expression": "y", "context": "hover", "frameId": 1}}
-< result
-| no variable or request is called 'y'
+< no no-value
+> evaluate {{"expression": "send", "context": "hover", "frameId": 1}}
+< no no-value
+> evaluate {{"expression": "ranks", "context": "hover"}}
+< no no-value
+> evaluate {{"expression": "", "context": "hover"}}
+< no no-value
+> evaluate {{"expression": "next", "context": "Repl"}}
+< no no-value
+> evaluate {{"expression": "{'x' * 4000}"}}
+< no no-value
 > evaluate {{"expression": "x", "context": "hover", "frameId": 3}}
 < no bad-number
 > evaluate {{"expression": "x", "context": "hover", "frameId": 0}}
 < no bad-number
-> evaluate {{"expression": "ranks", "frameId": 3}}
+> evaluate {{"expression": "ranks", "frameId": 3, "context": "repl"}}
 < no bad-number
 > evaluate {{"expression": "ranks", "context": "repl"}}
 < result
@@ -319,30 +352,30 @@ FIRST = (
 < result
 | rank 0 has ended
 | rank 1 has ended
-> evaluate {{"expression": "# of nothing"}}
+> evaluate {{"expression": "# of nothing", "context": "repl"}}
 < ok {{"result":"","variablesReference":0}}
-> evaluate {{"expression": "quit"}}
+> evaluate {{"expression": "quit", "context": "repl"}}
 < ok {{"result":"","variablesReference":0}}
-> evaluate {{"expression": "reload"}}
+> evaluate {{"expression": "reload", "context": "repl"}}
 < ok {{"result":"","variablesReference":0}}
-> evaluate {{"expression": "source no_file"}}
+> evaluate {{"expression": "source no_file", "context": "repl"}}
 < ok {{"result":"","variablesReference":0}}
-> evaluate {{"expression": "back 3"}}
+> evaluate {{"expression": "back 3", "context": "repl"}}
 < result
 | depth 5
 | 3 ahead: wake 0: line 6
 | {SENDS}
 < stopped goto/depth 5/1
-> evaluate {{"expression": "back 9"}}
+> evaluate {{"expression": "back 9", "context": "repl"}}
 < result
 | refused: fewer steps are taken
-> evaluate {{"expression": "goto 5"}}
+> evaluate {{"expression": "goto 5", "context": "repl"}}
 < result
 | depth 5
 | 3 ahead: wake 0: line 6
 | {SENDS}
 < stopped goto/depth 5/1
-> evaluate {{"expression": "why 1"}}
+> evaluate {{"expression": "why 1", "context": "repl"}}
 < result
 | line 8, 1.0 recv from 0 tag 0 with 0.0 value 7
 |   the call is complete: rank 1 can go on
@@ -357,20 +390,20 @@ FIRST = (
 |     8    recv x from 0 tag 0;  <- rank 1 can go on
 |     9    print x;
 |    10  }}
-> evaluate {{"expression": "zap"}}
+> evaluate {{"expression": "zap", "context": "repl"}}
 < result
 | unknown word 'zap': help all lists all
-> evaluate {{"expression": "check"}}
+> evaluate {{"expression": "check", "context": "repl"}}
 < result
 | 1 no choice: done
 | 1 run, and no more (1 done)
 | one run for all orders of independent steps; diagnose counts each order
-> evaluate {{"expression": "{'x' * 4000}"}}
+> evaluate {{"expression": "{'x' * 4000}", "context": "repl"}}
 < result
 | unknown word
 |         '{'x' * 4000}':
 |         help all lists all
-> evaluate {{"expression": "{'x' * 4001}"}}
+> evaluate {{"expression": "{'x' * 4001}", "context": "repl"}}
 < no bad-field
 > evaluate {{"expression": "{chr(233) * 2001}", "context": "hover"}}
 < no bad-field

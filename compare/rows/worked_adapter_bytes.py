@@ -23,14 +23,13 @@ PASSED = ('null', '0', '[]', '"threads"', '{}', '{"seq":1,"type":"request"}', '{
           '{"seq":1,"type":"event","event":"x"}', '{"seq":1,"type":"response","command":"threads","request_seq":1,"success":true}', '{"seq":1,"type":"Request","command":"threads"}',
           '{"seq":"1","type":"request","command":"threads"}', '{"seq":1.0,"type":"request","command":"threads"}', '{"seq":-1,"type":"request","command":"threads"}',
           '{"seq":18446744073709551616,"type":"request","command":"threads"}', '{"seq":1e0,"type":"request","command":"threads"}', '{"seq":true,"type":"request","command":"threads"}',
-          '{"seq":1,"type":"request","command":null}', '{"seq":1,"type":"request","command":["threads"]}', '{"seq":1,"type":"request","command":"threads","arguments":null}',
-          '{"seq":1,"type":"request","command":"threads","arguments":[]}', '{"seq":1,"type":"request","command":"threads","arguments":"{}"}', '{"seq":1,"type":"request","command":"threads"',
+          '{"seq":1,"type":"request","command":null}', '{"seq":1,"type":"request","command":["threads"]}', '{"seq":1,"type":"request","command":"threads"',
           '{"seq":1,"type":"request","command":"threads"}}', "{'seq':1,'type':'request','command':'threads'}", '{"seq":1,"type":"request","command":"threads",}', '')
 WORDS = '''
 > initialize {"linesStartAt1": false}
 < no bad-field
 > initialize {"linesStartAt1": null}
-< no bad-field
+< ok {"supportsConditionalBreakpoints":true,"supportsConfigurationDoneRequest":true,"supportsEvaluateForHovers":true,"supportsExceptionInfoRequest":true,"supportsStepBack":true,"supportsStepInTargetsRequest":true,"supportsTerminateRequest":true}
 > initialize {"linesStartAt1": 1}
 < no bad-field
 > fly
@@ -78,8 +77,10 @@ WORDS = '''
 < no bad-number
 > next {"threadid": 1}
 < no bad-field
-> stepIn {"threadId": 1, "targetId": null}
+> stepIn {"threadId": null, "targetId": 1}
 < no bad-field
+> stepIn {"threadId": 9, "targetId": null}
+< no bad-number
 > stepIn {"threadId": 9, "targetId": "1"}
 < no bad-field
 > stepInTargets {"frameId": 9}
@@ -102,24 +103,32 @@ WORDS = '''
 < no bad-field
 > setBreakpoints {"source": "s"}
 < no bad-field
-> setBreakpoints {"source": {"path": ""}, "breakpoints": null}
+> setBreakpoints {"source": null}
+< no bad-field
+> setBreakpoints {"source": {"path": ""}, "breakpoints": [{"line": null}]}
 < no bad-field
 > setBreakpoints {"source": {"path": ""}, "breakpoints": [{"line": 5}, {}]}
 < no bad-field
 > setBreakpoints {"source": {"path": ""}, "breakpoints": [{"line": 5}, 5]}
 < no bad-field
 > setBreakpoints {"source": {"path": ""}, "breakpoints": [{"line": 5, "condition": null}]}
-< no bad-field
+< ok {"breakpoints":[{"id":1,"line":5,"verified":true}]}
+> setBreakpoints {"source": {"path": ""}, "breakpoints": null}
+< ok {"breakpoints":[]}
 > setBreakpoints {"source": {"path": "x"}, "breakpoints": [{"line": "5"}]}
 < no bad-field
-> evaluate {"expression": "breaks"}
+> evaluate {"expression": "breaks", "context": "repl", "frameId": null}
 < result
 | no breakpoint
 > evaluate {"context": "repl"}
 < no bad-field
 > evaluate {"expression": 1}
 < no bad-field
-> evaluate {"expression": "x", "context": null}
+> evaluate {"expression": "x", "context": null, "frameId": null}
+< result
+| rank 0: 0
+| rank 1: 0
+> evaluate {"expression": null}
 < no bad-field
 > evaluate {"expression": "next", "frameId": "1"}
 < no bad-field
@@ -134,8 +143,20 @@ WORDS = '''
 > pause {"threadId": 99}
 < ok {}
 > initialize
-< ok {"supportsConditionalBreakpoints":true,"supportsConfigurationDoneRequest":true,"supportsEvaluateForHovers":true,"supportsExceptionInfoRequest":true,"supportsRestartRequest":true,"supportsStepBack":true,"supportsStepInTargetsRequest":true,"supportsTerminateRequest":true}
+< ok {"supportsConditionalBreakpoints":true,"supportsConfigurationDoneRequest":true,"supportsEvaluateForHovers":true,"supportsExceptionInfoRequest":true,"supportsStepBack":true,"supportsStepInTargetsRequest":true,"supportsTerminateRequest":true}
 '''
+
+# A script that is refused, and what the program says of it at its end.
+REFUSED, FAULT = 'mpd 1; ranks 1; print', (b'mpdbg: script refused 4 expected at 21 line 1\n', 2)
+NOT_READ = '{"body":{"error":{"format":"%s","id":1,"showUser":true}},"command":"launch","message":"not-read","request_seq":2,"seq":%d,"success":false,"type":"response"}'
+CAN = '{"body":{"supportsConditionalBreakpoints":true,"supportsConfigurationDoneRequest":true,"supportsEvaluateForHovers":true,"supportsExceptionInfoRequest":true,"supportsStepBack":true,"supportsStepInTargetsRequest":true,"supportsTerminateRequest":true},"command":"initialize","request_seq":1,"seq":1,"success":true,"type":"response"}'
+LAUNCH = '{"command":"launch","seq":2,"type":"request","arguments":{"program":"x"}}'
+BEGINS = '{"command":"initialize","seq":1,"type":"request","arguments":null}'
+
+
+def refused(number, command, name, seq):
+    return f'{{"command":"{command}","message":"{name}","request_seq":{number},"seq":{seq},"success":false,"type":"response"}}'
+
 
 BYTES = (
     dialogue('what is refused, by the first test that fails', FIRST, WORDS),
@@ -184,5 +205,26 @@ BYTES = (
     bytes_row('a header without an end', b'X: y\r\n' * 1000, (), NO_FRAME),
     bytes_row('header lines in any letters, and others beside', b'CONTENT-length:\t46 \r\nContent-Type: x\r\n\r\n' + ASKED.encode(), (ANSWERED,)),
     bytes_row('byte by byte', tuple(bytes([byte]) for byte in frame(ASKED)), (ANSWERED,), way='in pieces'),
-    bytes_row('a script that is refused', frame(ASKED), (), (b'mpdbg: script refused 4 expected at 21 line 1\n', 2), script='mpd 1; ranks 1; print'),
+    dialogue('arguments of any kind', FIRST, '''
+>> {"seq":1,"type":"request","command":"threads","arguments":null}
+<< {"command":"threads","message":"not-launched","request_seq":1,"seq":1,"success":false,"type":"response"}
+>> {"seq":2,"type":"request","command":"launch","arguments":["program"]}
+<< {"command":"launch","message":"bad-field","request_seq":2,"seq":2,"success":false,"type":"response"}
+>> {"seq":3,"type":"request","command":"launch","arguments":{"program":"a"}}
+<< {"body":{},"command":"launch","request_seq":3,"seq":3,"success":true,"type":"response"}
+<< {"body":{},"event":"initialized","seq":4,"type":"event"}
+>> {"seq":4,"type":"request","command":"threads","arguments":"x"}
+<< {"body":{"threads":[{"id":1,"name":"rank 0 is at line 5"},{"id":2,"name":"rank 1 is at line 5"}]},"command":"threads","request_seq":4,"seq":5,"success":true,"type":"response"}
+'''),
+    bytes_row('a script that is refused, and no launch', frame(ASKED), (ANSWERED,), FAULT, script=REFUSED),
+    bytes_row('a script that is refused', frame(BEGINS) + frame(LAUNCH) + frame(LAUNCH) + frame('{"command":"fly","seq":3,"type":"request"}') + frame('[]') + frame(ENDS) + frame(ASKED),
+              (CAN, NOT_READ % ('mpdbg: script refused 4 expected at 21 line 1', 2), NOT_READ % ('mpdbg: script refused 4 expected at 21 line 1', 3),
+               refused(3, 'fly', 'unknown-command', 4), '{"body":{},"command":"disconnect","request_seq":2,"seq":5,"success":true,"type":"response"}',
+               '{"body":{},"event":"terminated","seq":6,"type":"event"}'), FAULT, script=REFUSED),
+    bytes_row('a script that is refused, and fields that are wrong', frame('{"command":"launch","seq":1,"type":"request"}') + frame('{"command":"initialize","seq":2,"type":"request","arguments":{"linesStartAt1":false}}'),
+              (refused(1, 'launch', 'bad-field', 1), refused(2, 'initialize', 'bad-field', 2)), FAULT, script=REFUSED),
+    bytes_row('a script that is refused, and no frame', frame(LAUNCH) + b'Content-Length: x\r\n\r\n', (NOT_READ % ('mpdbg: script refused 4 expected at 21 line 1', 1),), FAULT, script=REFUSED),
+    bytes_row('a script that is not there', frame(LAUNCH) + frame(ENDS), (NOT_READ % ('mpdbg: device: no such file', 1),
+              '{"body":{},"command":"disconnect","request_seq":2,"seq":2,"success":true,"type":"response"}', '{"body":{},"event":"terminated","seq":3,"type":"event"}'),
+              (b'mpdbg: device\n', 3), script=None),
 )

@@ -35,7 +35,30 @@ def lines(texts):
     return '\n'.join(f'| {text}' for text in texts)
 
 
+# Declarations that are one cell, many, and none.
+WIDE = 'mpd 1;\nranks 2;\nvar a[17];\nvar b[16];\nvar c[1];\nvar none[0];\nreq q[1];\na[16] = rank;\n'
+
 RUNS = (
+    dialogue('values of arrays', WIDE, f'''{LAUNCHED}
+> evaluate {{"expression": "a", "frameId": 1}}
+< result
+| [0, 0, 0, 0, 0, 0, 0, 0, 0, 0, 0, 0, 0, 0, 0, 0, ..]
+> evaluate {{"expression": "b", "frameId": 2}}
+< result
+| [0, 0, 0, 0, 0, 0, 0, 0, 0, 0, 0, 0, 0, 0, 0, 0]
+> evaluate {{"expression": "c", "frameId": 2}}
+< result
+| 0
+> evaluate {{"expression": "none", "frameId": 1}}
+< result
+| []
+> evaluate {{"expression": "q"}}
+< result
+| rank 0: none
+| rank 1: none
+> evaluate {{"expression": "a b", "frameId": 1}}
+< no no-value
+'''),
     dialogue('a choice, and both of its ends', 'stolen_message.mpd', f'''{LAUNCHED}
 > evaluate {{"expression": "deadlock", "context": "repl"}}
 < result
@@ -43,22 +66,22 @@ RUNS = (
 | 11 ahead: local 0: line 7
 |     7  if rank == 0 {{
 < stopped entry/start/1
-> evaluate {{"expression": "trap"}}
+> evaluate {{"expression": "trap", "context": "repl"}}
 < result
 | no trap from here: 2 runs, and no more (1 done, 1 deadlock)
-> evaluate {{"expression": "follow 2"}}
+> evaluate {{"expression": "follow 2", "context": "repl"}}
 < result
 | run 2, done, is 17 steps ahead
 | 17 ahead: local 0: line 7
 |     7  if rank == 0 {{
 < stopped entry/start/1
-> evaluate {{"expression": "local 0"}}
+> evaluate {{"expression": "local 0", "context": "repl"}}
 < result
 | 1 local 0: line 7
 | 16 ahead: local 0: line 8
 |     8    irecv r note from any tag any;
 < stopped goto/depth 1/1
-> evaluate {{"expression": "local 1"}}
+> evaluate {{"expression": "local 1", "context": "repl"}}
 < result
 | 2 local 1: line 7
 | the 16 steps that lay ahead are gone
@@ -72,14 +95,14 @@ RUNS = (
 | 2 ahead: local 0: line 7
 |     7  if rank == 0 {{
 < stopped entry/start/1
-> evaluate {{"expression": "local 1"}}
+> evaluate {{"expression": "local 1", "context": "repl"}}
 < result
 | 1 local 1: line 7
 | the 2 steps that lay ahead are gone
 | next: local 0: line 7
 |     7  if rank == 0 {{
 < stopped goto/depth 1/1
-> evaluate {{"expression": "undo-choice"}}
+> evaluate {{"expression": "undo-choice", "context": "repl"}}
 < result
 | refused: no choice was made before
 > reverseContinue {{"threadId": 1}}
@@ -103,7 +126,7 @@ RUNS = (
 | 1 ahead: local 1: line 7
 |     7  if rank == 0 {{
 < stopped entry/start/1
-> evaluate {{"expression": "local 0"}}
+> evaluate {{"expression": "local 0", "context": "repl"}}
 < result
 | 1 local 0: line 7
 | the step that lay ahead is gone
@@ -246,13 +269,20 @@ RUNS = (
 > next {{"threadId": 1}}
 < ok {{}}
 < output
-| 1 step, depth 9
+| 5 steps, depth 13
+| breakpoint 0: line 10
+| 4 ahead: local 0: line 10
+|    10    wait r;
+< stopped step/depth 13/1
+> evaluate {{"expression": "undo-choice", "context": "repl"}}
+< result
+| depth 9
 | 8 ahead: match 2.0 0.0: rank 2, line 13, to rank 0, line 8
 | {SENDS}
 |     8    irecv r note from any tag any;
 {CHOICE}
-< stopped step/depth 9/1
-> evaluate {{"expression": "next 2"}}
+< stopped goto/depth 9/1
+> evaluate {{"expression": "next 2", "context": "repl"}}
 < result
 | 10 match 2.0 0.0: rank 2, line 13, to rank 0, line 8
 | 7 ahead: wake 2: line 13
@@ -278,7 +308,7 @@ RUNS = (
 < ok {{"breakMode":"always","description":"  rank 1, line 10: trap zero-divisor, with x = 0\\n","exceptionId":"trap"}}
 > stackTrace {{"threadId": 2}}
 < ok {{"stackFrames":[{{"column":1,"id":2,"line":10,"name":"rank 1 is trapped at line 10: zero-divisor","source":{{"path":"s"}}}}],"totalFrames":1}}
-> evaluate {{"expression": "blame"}}
+> evaluate {{"expression": "blame", "context": "repl"}}
 < result
 | decided from the start: every run hangs or traps
 '''),
@@ -294,13 +324,13 @@ RUNS = (
 < ok {{"breakMode":"always","description":"  left over: line 4, 0.0 isend to 1 tag 0 value 1\\n","exceptionId":"leftovers"}}
 '''),
     dialogue('bytes of a script that are shown', ODD, f'''{LAUNCHED}
-> evaluate {{"expression": "list"}}
+> evaluate {{"expression": "list", "context": "repl"}}
 < result
 |     1  mpd 1;
 |     2  ranks 1;
 |     3  # a?b	c
 |     4  print 1;  <- rank 0
-> evaluate {{"expression": "café \\u0001\\n"}}
+> evaluate {{"expression": "café \\u0001\\n", "context": "repl"}}
 < result
 | unknown word 'caf??': perhaps calls
 '''),
@@ -420,6 +450,31 @@ RUNS = (
 < ok {{"variables":[{{"name":"answers[0]","value":"0","variablesReference":0}},{{"name":"answers[1]","value":"20","variablesReference":0}},{{"name":"which","value":"1","variablesReference":0}},{{"name":"taken","value":"0","variablesReference":0}}]}}
 > variables {{"variablesReference": 2}}
 < ok {{"variables":[{{"name":"r[0]","value":"0.0","variablesReference":0}},{{"name":"r[1]","value":"none","variablesReference":0}}]}}
+> evaluate {{"expression": "answers", "context": "watch", "frameId": 1}}
+< result
+| [0, 20]
+> evaluate {{"expression": "answers[1]", "context": "hover", "frameId": 1}}
+< result
+| 20
+> evaluate {{"expression": "answers[which] + 1", "context": "hover", "frameId": 1}}
+< result
+| 21
+> evaluate {{"expression": "answers[2]", "context": "hover", "frameId": 1}}
+< result
+| traps: bad-index
+> evaluate {{"expression": "r", "context": "hover", "frameId": 1}}
+< result
+| [0.0, none]
+> evaluate {{"expression": "r[0]", "context": "hover", "frameId": 1}}
+< result
+| 0.0
+> evaluate {{"expression": "r", "context": "hover", "frameId": 2}}
+< result
+| [none, none]
+> evaluate {{"expression": "r + 1", "context": "hover", "frameId": 1}}
+< no no-value
+> evaluate {{"expression": "answers + 1", "context": "hover", "frameId": 1}}
+< no no-value
 '''),
     dialogue('a choice of several calls', BOTH, f'''{LAUNCHED}
 > continue {{"threadId": 4}}
@@ -472,20 +527,59 @@ RUNS = (
 |     8    irecv r note from any tag any;
 {CHOICE}
 < stopped breakpoint/depth 9/3
-> continue {{"threadId": 1}}
-< ok {{"allThreadsContinued":true}}
+> next {{"threadId": 1}}
+< ok {{}}
 < output
-| 10 match 2.0 0.0: rank 2, line 13, to rank 0, line 8
-| stopped: after the choice
-| 7 ahead: wake 2: line 13
-| {SENDS}
-< stopped breakpoint/depth 10/1
+| 4 steps, depth 13
+| stopped: rank 0 has gone on
+| 4 ahead: local 0: line 10
+|    10    wait r;
+< stopped step/depth 13/1
+> setBreakpoints {{"source": {{"path": "s"}}, "breakpoints": [{{"line": 11}}]}}
+< ok {{"breakpoints":[{{"id":1,"line":11,"verified":true}}]}}
 > stepOut {{"threadId": 2}}
 < ok {{}}
 < output
-| 7 steps, depth 17
+| 2 steps, depth 15
+| breakpoint 0: line 11
+| 2 ahead: local 0: line 11
+|    11    print result;
+< stopped step/depth 15/2
+> stepOut {{"threadId": 2}}
+< ok {{}}
+< output
+| 2 steps, depth 17
 | rank 0 prints 42
 | ended: done
 < stopped end/done/1
+> restart
+< ok {{}}
+< output
+| depth 0
+| 17 ahead: local 0: line 7
+|     7  if rank == 0 {{
+< stopped entry/start/1
+> evaluate {{"expression": "local 1", "context": "repl"}}
+< result
+| 1 local 1: line 7
+| the 17 steps that lay ahead are gone
+| next: local 0: line 7
+|     7  if rank == 0 {{
+< stopped goto/depth 1/1
+> stepBack {{"threadId": 2}}
+< ok {{}}
+< output
+| depth 0
+| 1 ahead: local 1: line 7
+|     7  if rank == 0 {{
+< stopped entry/start/1
+> continue {{"threadId": 1}}
+< ok {{"allThreadsContinued":true}}
+< output
+| 1 step, depth 1
+| stopped: the steps ahead end here
+| next: local 0: line 7
+|     7  if rank == 0 {{
+< stopped breakpoint/depth 1/2
 ''', run=NamedRun('1')),
 )

@@ -19,7 +19,6 @@ use Rattle.mpd_session.specs.declared.reply.Reply.TheVariants as reply
 use Rattle.mpd_session.specs.declared.reply.Answer.{Answer as SessionAnswer}
 use Rattle.mpd_session.specs.declared.reply.Answer.TheVariants as answer
 use Rattle.mpd_session.specs.declared.reply.Refusal.{Refusal as SessionRefusal}
-use Rattle.mpd_dap.specs.declared.ask.Manner.{Manner}
 use Rattle.mpd_vocabulary.specs.declared.word.Word.{Word}
 use Rattle.mpd_console.specs.Says.{Console, WordSays, ConsoleSays, asking}
 use Rattle.mpd_dap.specs.declared.ask.Message.{Message}
@@ -38,14 +37,16 @@ use Rattle.mpd_adapter.specs.declared.moves.After.TheVariants as behind
 use Rattle.mpd_adapter.specs.declared.moves.Move.{Move}
 use Rattle.mpd_adapter.specs.declared.task.Look.{Look}
 use Rattle.mpd_adapter.specs.declared.task.Task.{Task}
-use Rattle.mpd_adapter.specs.declared.task.Task.TheVariants.{Refused, Looks, Launches, Begins, Ends, Marks, Moves, Evaluates}
+use Rattle.mpd_adapter.specs.declared.task.Task.TheVariants.{Refused, Looks, Launches, Begins, Ends, Marks, Moves, Types, Values}
 use Rattle.mpd_adapter.specs.Numbers.{one_more}
 use Rattle.mpd_adapter.specs.Moves.{after, word_in}
 use Rattle.mpd_adapter.specs.Halts.{stopped_in}
 use Rattle.mpd_adapter.specs.Marks.{marks_in, marked}
 use Rattle.mpd_adapter.specs.Looks.{IsBodyIn, shown}
+use Rattle.mpd_adapter.specs.declared.worth.RankWorth.{RankWorth}
+use Rattle.mpd_adapter.specs.Worths.{IsWorth}
 use Rattle.mpd_adapter.specs.Answers.{Heard, IsSheet, frames_of, number_after}
-use Rattle.mpd_adapter.specs.Says.{Adapter, task_in, stands_for, WordsSay, move_body, said_body, looked, Looked, Shows, announced, begun_in, begun_answer, all_started, moved_answer, marked_answer, answer_of, wanted_of, is_own, marked_by, marks_by, path_or, path_then, over_then, memory_frames, next_number, Spoken, line_for, expression_of, has_changed, evaluated_body, evaluated_answer, without_feed, ends_in_feed, Wrote, Told, Kept, Unheard, Heeds, SaysBy, Says}
+use Rattle.mpd_adapter.specs.Says.{Adapter, task_in, stands_for, WordsSay, move_body, said_body, looked, Looked, Shows, announced, begun_in, begun_answer, all_started, moved_answer, marked_answer, answer_of, wanted_of, is_own, marked_by, marks_by, path_or, path_then, over_then, memory_frames, next_number, Spoken, valued, Valued, worths_for, expression_of, has_changed, evaluated_body, evaluated_answer, without_feed, ends_in_feed, Wrote, Told, Kept, Unheard, Heeds, SaysBy, Says}
 
 -- ---- sheets, by what their bodies are
 
@@ -64,6 +65,14 @@ pub looked_none : (n k : ℕ) (m : Message) (s : Held) (path z : List ℕ) (l : 
 looked_none n k m s path z l is sheet = (None, is, sheet)
 
 pub ruleset looking = (looked_some, looked_none)
+
+pub valued_some : (n k : ℕ) (m : Message) (list : List RankWorth) (z : List ℕ) (j : Json) → IsWorth list (shown (Some j)) → IsSheet n (frames_of n m (Ok (view j.value, []))) z k → Valued n m list z k
+valued_some n k m list z j is sheet = (Some (view j.value), is, sheet)
+
+pub valued_none : (n k : ℕ) (m : Message) (list : List RankWorth) (z : List ℕ) → IsWorth list (shown None) → IsSheet n (frames_of n m (Err refusal.NoValue)) z k → Valued n m list z k
+valued_none n k m list z is sheet = (None, is, sheet)
+
+pub ruleset valuing = (valued_some, valued_none)
 
 pub begun_sheet : (n k ranks : ℕ) (m : Message) (s : Held) (z : List ℕ) (body stands : Data) → body ≡ nothing_data → ranks ≡ s.trail.program.ranks → stands ≡ stopped_in behind.Jump s
     → IsSheet n (frames_of n m (Ok (body, all_started ranks ++ (event.Stopped, stands) ∷ []))) z k → IsSheet n (frames_of n m (begun_answer s)) z k
@@ -189,9 +198,9 @@ evaluated_moved n k m said z s b body stands is t at sheet =
 
 pub ruleset evaluating = (evaluated_same, evaluated_moved)
 
-pub talked : (d : Adapter) (e : Console) (how : Manner) (p : Option ℕ) (m : Message) (line text z : List ℕ) (n k v w : ℕ) (b : Bool) (s : Held) → line ≡ line_for how p (expression_of m.ask) → ConsoleSays d.console line text e → v ≡ d.console.session.version → w ≡ e.session.version
-    → b ≡ not (w == v) → n ≡ d.number → s ≡ e.session → IsSheet n (frames_of n m (evaluated_answer b text s)) z k → Wrote d (Evaluates how p) m e z k
-talked d e how p m line text z n k v w b s is says old new differs first at sheet =
+pub talked : (d : Adapter) (e : Console) (m : Message) (line text z : List ℕ) (n k v w : ℕ) (b : Bool) (s : Held) → line ≡ expression_of m.ask → ConsoleSays d.console line text e → v ≡ d.console.session.version → w ≡ e.session.version
+    → b ≡ not (w == v) → n ≡ d.number → s ≡ e.session → IsSheet n (frames_of n m (evaluated_answer b text s)) z k → Wrote d Types m e z k
+talked d e m line text z n k v w b s is says old new differs first at sheet =
     let c : b ≡ has_changed d.console.session e.session = differs ∙ ap (λ x. not (x == v)) new ∙ ap (λ x. not (e.session.version == x)) old in (
       text,
       None,
@@ -201,15 +210,15 @@ talked d e how p m line text z n k v w b s is says old new differs first at shee
           (subst (λ x. IsSheet d.number (frames_of d.number m (evaluated_answer x text s)) z k) c (subst (λ f. IsSheet f (frames_of f m (evaluated_answer b text s)) z k) first sheet)),
     )
 
-pub kept_talked : (d : Adapter) (e : Console) (how : Manner) (p : Option ℕ) (m : Message) (line text : List ℕ) → line ≡ line_for how p (expression_of m.ask) → ConsoleSays d.console line text e → Kept d (Evaluates how p) m e
-kept_talked d e how p m line text is says = inr (text, subst (λ y. ConsoleSays d.console y text e) is says)
+pub kept_talked : (d : Adapter) (e : Console) (m : Message) (line text : List ℕ) → line ≡ expression_of m.ask → ConsoleSays d.console line text e → Kept d Types m e
+kept_talked d e m line text is says = inr (text, subst (λ y. ConsoleSays d.console y text e) is says)
 
 -- whatever is refused after the line was typed, between two looks that change nothing
-pub kept_typed : {A E : Type 0} (r : Result A E) (d b c e : Adapter) (how : Manner) (p : Option ℕ) (m : Message) (line text : List ℕ) → b ≡ d → line ≡ line_for how p (expression_of m.ask) → ConsoleSays b.console line text c.console → e ≡ c
-    → OnErr r (Kept d (Evaluates how p) m e.console)
-kept_typed r d b c e how p m line text before is says after =
+pub kept_typed : {A E : Type 0} (r : Result A E) (d b c e : Adapter) (m : Message) (line text : List ℕ) → b ≡ d → line ≡ expression_of m.ask → ConsoleSays b.console line text c.console → e ≡ c
+    → OnErr r (Kept d Types m e.console)
+kept_typed r d b c e m line text before is says after =
     refused_with r
-    (subst (λ (x : Adapter). Kept d (Evaluates how p) m x.console) (sym after) (kept_talked d c.console how p m line text is (subst (λ (x : Adapter). ConsoleSays x.console line text c.console) before says)))
+    (subst (λ (x : Adapter). Kept d Types m x.console) (sym after) (kept_talked d c.console m line text is (subst (λ (x : Adapter). ConsoleSays x.console line text c.console) before says)))
 
 pub ruleset talking = (talked, kept_talked, kept_unsaid)
 
@@ -235,7 +244,7 @@ pub ruleset moving = (went, kept_before, kept_behind)
 
 -- ---- what stands for no word
 
-wrote_so : (d : Adapter) (t : Task) (m : Message) (e : Console) (z : List ℕ) (n k : ℕ) → Spoken d t m [] e → Shows d t None → n ≡ d.number → IsSheet n (frames_of n m (answer_of d t m [] None e)) z k → Wrote d t m e z k
+wrote_so : (d : Adapter) (t : Task) (m : Message) (e : Console) (z : List ℕ) (n k : ℕ) → Spoken d t m [] e → Shows d t m None → n ≡ d.number → IsSheet n (frames_of n m (answer_of d t m [] None e)) z k → Wrote d t m e z k
 wrote_so d t m e z n k none nothing first sheet = ([], None, none, nothing, subst (λ f. IsSheet f (frames_of f m (answer_of d t m [] None e)) z k) first sheet)
 
 pub wrote_refused : (d : Adapter) (r : Refusal) (m : Message) (e : Console) (z : List ℕ) (n k : ℕ) → e ≡ d.console → n ≡ d.number → IsSheet n (frames_of n m (Err r)) z k → Wrote d (Refused r) m e z k
@@ -250,6 +259,9 @@ wrote_looked d l m e path z n k s same first given at (body, is, sheet) = (
   subst (λ f. IsSheet f (frames_of f m (looked body)) z k) first sheet,
 )
 
+pub wrote_valued : (d : Adapter) (p : Option ℕ) (m : Message) (e : Console) (z : List ℕ) (n k : ℕ) → e ≡ d.console → n ≡ d.number → Valued n m (worths_for d m.ask p) z k → Wrote d (Values p) m e z k
+wrote_valued d p m e z n k same first (body, is, sheet) = ([], body, same, is, subst (λ f. IsSheet f (frames_of f m (valued body)) z k) first sheet)
+
 pub wrote_launched : (d : Adapter) (m : Message) (e : Console) (z : List ℕ) (n k : ℕ) → e ≡ d.console → n ≡ d.number → IsSheet n (frames_of n m (announced event.Initialized)) z k → Wrote d Launches m e z k
 wrote_launched d m e z n k same first sheet = wrote_so d Launches m e z n k same refl first sheet
 
@@ -259,7 +271,7 @@ wrote_begun d m e z n k s same first at sheet = wrote_so d Begins m e z n k same
 pub wrote_ended : (d : Adapter) (m : Message) (e : Console) (z : List ℕ) (n k : ℕ) → e ≡ d.console → n ≡ d.number → IsSheet n (frames_of n m (announced event.Terminated)) z k → Wrote d Ends m e z k
 wrote_ended d m e z n k same first sheet = wrote_so d Ends m e z n k same refl first sheet
 
-pub ruleset writing = (wrote_refused, wrote_looked, wrote_launched, wrote_begun, wrote_ended, kept_before)
+pub ruleset writing = (wrote_refused, wrote_looked, wrote_valued, wrote_launched, wrote_begun, wrote_ended, kept_before)
 
 -- ---- what is handed over
 

@@ -1,5 +1,7 @@
 pub mod SheetLemmas
 pub mod SeenLemmas
+pub mod WorthLemmas
+pub mod UnreadLemmas
 pub mod ShelfLemmas
 pub mod DeskLemmas
 pub mod LookLemmas

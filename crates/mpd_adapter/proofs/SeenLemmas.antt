@@ -22,7 +22,7 @@ use Rattle.mpd_adapter.specs.declared.halt.Halt.TheVariants as halt
 use Rattle.mpd_vocabulary.specs.declared.word.Word.TheVariants as word
 use Rattle.mpd_dap.specs.declared.name.Reason.{Reason}
 
-seen_at : {A : Type 0} (other : A) (tell : Trail → World → A) (s : Held) (d : DebuggerView) → IsReached (standing_of d) → d.trail ≡ s.trail → tell d.trail d.world ≡ seen other (tell s.trail) (world_of s.trail)
+pub seen_at : {A : Type 0} (other : A) (tell : Trail → World → A) (s : Held) (d : DebuggerView) → IsReached (standing_of d) → d.trail ≡ s.trail → tell d.trail d.world ≡ seen other (tell s.trail) (world_of s.trail)
 seen_at other tell s d r e = ap (λ t. tell t d.world) e ∙ sym (ap (seen other (tell s.trail)) (ap world_of (sym e) ∙ r.world))
 
 pub body_seen : (s : Held) (d : DebuggerView) (path : List ℕ) (l : Look) (body : Option Json) → IsReached (standing_of d) → d.trail ≡ s.trail → IsBodyAt d.trail.program d.world path l (shown body) → IsBodyIn s path l (shown body)

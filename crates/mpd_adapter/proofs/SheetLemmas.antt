@@ -6,10 +6,12 @@ use Rattle.mpd_frames.specs.Frame.{frame_text}
 use Rattle.mpd_dap.specs.declared.ask.Message.{Message}
 use Rattle.mpd_dap.specs.declared.name.Event.{Event}
 use Rattle.mpd_dap.specs.declared.name.Refusal.{Refusal}
-use Rattle.mpd_dap.specs.Told.{response_text, refusal_text, event_text}
+use Rattle.mpd_dap.specs.declared.name.Refusal.TheVariants as refusal
+use Rattle.mpd_dap.specs.Told.{response_text, refusal_text, failure_text, event_text}
 use Rattle.mpd_adapter.specs.Numbers.{one_more}
 use Rattle.mpd_adapter.specs.Answers.{Heard, IsSheet, Tells, frames_of, number_after, events_written, number_behind}
 use Rattle.mpd_adapter.specs.Says.{started, all_started}
+use Rattle.mpd_adapter.specs.Unread.{failed_frames}
 
 -- one frame after none
 first_is : (f before after : List ℕ) → before ≡ [] → after ≡ before ++ frame_text f → after ≡ flat_map frame_text (f ∷ [])
@@ -28,6 +30,13 @@ pub refused_sheet : (n a b : ℕ) (m : Message) (r : Refusal) (before after : Li
     → IsSheet n (frames_of n m (Err r)) after b
 refused_sheet n a b m r before after none first is next = record {
   text_is = first_is (refusal_text n m.seq m.name r) before after none (is ∙ ap (λ k. before ++ frame_text (refusal_text k m.seq m.name r)) first);
+  number_is = next ∙ ap one_more first;
+}
+
+pub failed_sheet : (n a b : ℕ) (m : Message) (told before after : List ℕ) → before ≡ [] → a ≡ n → after ≡ before ++ frame_text (failure_text a m.seq m.name refusal.NotRead told) → b ≡ one_more a
+    → IsSheet n (failed_frames n m told) after b
+failed_sheet n a b m told before after none first is next = record {
+  text_is = first_is (failure_text n m.seq m.name refusal.NotRead told) before after none (is ∙ ap (λ k. before ++ frame_text (failure_text k m.seq m.name refusal.NotRead told)) first);
   number_is = next ∙ ap one_more first;
 }
 
@@ -104,4 +113,4 @@ begun_sheet n a b c d ranks m body stands e before after last end none first is 
       number_is = over ∙ told.number_is one ∙ ap (λ k. number_behind k (all_started ranks ++ one)) s.number_is;
     }
 
-pub ruleset sheets = (refused_sheet, response_sheet, event_sheet, stop_sheet)
+pub ruleset sheets = (refused_sheet, failed_sheet, response_sheet, event_sheet, stop_sheet)

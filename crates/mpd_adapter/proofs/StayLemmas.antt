@@ -22,7 +22,7 @@ use Rattle.mpd_adapter.specs.declared.marks.Plan.{Plan}
 use Rattle.mpd_adapter.specs.declared.marks.Plan.TheVariants.{Fails, Sets}
 use Rattle.mpd_adapter.specs.declared.task.Task.TheVariants.{Marks}
 use Rattle.mpd_adapter.specs.Laws.{KeepsOthers, KeepsRest}
-use Rattle.mpd_adapter.specs.Marks.{asked, is_of_line, without, without_all, without_lines, held_after, held_after_all, plans_of, marked}
+use Rattle.mpd_adapter.specs.Marks.{asked, is_of_line, without, without_all, without_lines, stop_at, held_after, held_after_all, plans_of, marked}
 use Rattle.mpd_adapter.specs.Says.{Adapter, Spoken, is_own, wanted_of, marked_by}
 
 stays : (s : Held) → KeepsRest s s
@@ -83,7 +83,7 @@ break_stays_at s c (Some w) = (refl, added_by s.breaks c (is_there w c))
 set_stays : (s : Held) (p : Plan) → KeepsRest s (held_after s p)
 unfolding respond
 set_stays s (Fails given why) = stays s
-set_stays s (Sets given n c) = break_stays_at s c (world_of s.trail)
+set_stays s (Sets given n w) = break_stays_at s (stop_at n w) (world_of s.trail)
 
 all_stay : (s : Held) (plans : List Plan) → KeepsRest s (held_after_all s plans)
 all_stay s [] = stays s

@@ -1,4 +1,4 @@
--- Why and where a session stands still, as the event `stopped` tells it (docs/ADAPTER.md, "Moves").
+-- Why and where a session stands still, as the event `stopped` tells it (docs/ADAPTER.md, "Stops").
 use Rattle.std.specs.Prelude.{ℕ, ◌==◌, Bool, if◌then◌else◌, List, [], ◌∷◌, ◌++◌, slice_get, Option, Some, None, is_some, codes}
 use Rattle.std.specs.Fmt.{decimal}
 use Rattle.mpd_model.specs.declared.step.Step.{Step}

@@ -7,5 +7,7 @@ pub mod Looks
 pub mod Tasks
 pub mod Answers
 pub mod Marks
+pub mod Worths
 pub mod Says
 pub mod Laws
+pub mod Unread

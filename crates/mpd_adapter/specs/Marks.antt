@@ -1,13 +1,14 @@
 -- The breakpoints that an editor sets (docs/ADAPTER.md, "Breakpoints").
-use Rattle.std.specs.Prelude.{ℕ, Bool, true, false, nat_lt, if◌then◌else◌, List, [], ◌∷◌, ◌++◌, map, Option, Some, None, codes}
-use Rattle.std.specs.Fmt.{decimal}
+use Rattle.std.specs.Prelude.{ℕ, Bool, true, false, nat_lt, if◌then◌else◌, List, [], ◌∷◌, map, Option, Some, None, Result, Ok, Err}
 use Rattle.std.specs.List.{range_with_len}
 use Rattle.mpd_model.specs.declared.limits.TheConstants.{BREAKS_MAX}
+use Rattle.mpd_model.specs.declared.breakpoint.Condition.{Condition}
 use Rattle.mpd_model.specs.declared.breakpoint.Breakpoint.{Breakpoint}
 use Rattle.mpd_model.specs.declared.breakpoint.Breakpoint.TheVariants as on
 use Rattle.mpd_model.specs.script.Declaration.{Declared}
 use Rattle.mpd_model.specs.script.Program.{Program}
 use Rattle.mpd_model.specs.runs.Breakpoints.{break_at}
+use Rattle.mpd_model.specs.texts.Words.{words}
 use Rattle.mpd_session.specs.declared.request.Command.{Command}
 use Rattle.mpd_session.specs.declared.request.Command.TheVariants as command
 use Rattle.mpd_session.specs.declared.reply.Reply.{Reply}
@@ -16,10 +17,10 @@ use Rattle.mpd_session.specs.declared.reply.Answer.TheVariants as answer
 use Rattle.mpd_session.specs.declared.reply.Refusal.TheVariants as refused
 use Rattle.mpd_session.specs.Held.{Held}
 use Rattle.mpd_session.specs.Respond.{respond}
-use Rattle.mpd_vocabulary.specs.declared.word.Word.TheVariants as word
-use Rattle.mpd_vocabulary.specs.declared.read.Line.{Line}
-use Rattle.mpd_vocabulary.specs.declared.read.Line.TheVariants.{Says}
-use Rattle.mpd_vocabulary.specs.Reading.{line_of}
+use Rattle.mpd_vocabulary.specs.declared.word.When.{When}
+use Rattle.mpd_vocabulary.specs.declared.word.WordFault.{WordFault}
+use Rattle.mpd_vocabulary.specs.Conditions.{pieces_of, condition_in}
+use Rattle.mpd_vocabulary.specs.Reading.{when_in}
 use Rattle.mpd_console.specs.Says.{asking}
 use Rattle.mpd_dap.specs.declared.ask.Wanted.{Wanted}
 use Rattle.mpd_dap.specs.declared.listed.Mark.{Mark}
@@ -72,36 +73,29 @@ line_from from (n ∷ lines) = nearest (from_on from n) (line_from from lines)
 
 -- ---- what must hold there
 
--- `break 7`, with what stands after it
-abbrev pub break_words : ℕ → List ℕ → List ℕ
-break_words n z = codes "break " ++ (decimal n ++ z)
+-- what is read after `if`
+abbrev pub with_condition : Result Condition WordFault → Option When
+with_condition (Err f) = None
+with_condition (Ok c) = Some (record { of = None; condition = Some c })
 
--- the breakpoint of a line that a line of the console sets, if it sets one
-abbrev pub set_by : Line → Option Breakpoint
-set_by (Says (word.Break (on.Line n of when))) = Some (on.Line n of when)
-set_by other = None
+abbrev pub or_condition : Result When WordFault → Result Condition WordFault → Option When
+or_condition (Ok w) c = Some w
+or_condition (Err f) c = with_condition c
 
-abbrev pub read_so : List Declared → ℕ → List ℕ → Option Breakpoint
-read_so ds n z = set_by (line_of ds (break_words n z))
-
-abbrev pub or_else : Option Breakpoint → Option Breakpoint → Option Breakpoint
-or_else None other = other
-or_else (Some b) other = Some b
-
--- A condition is read as it stands, and once more with `if` before it.
-abbrev pub read_for : List Declared → ℕ → Option (List ℕ) → Option Breakpoint
-read_for ds n None = read_so ds n []
-read_for ds n (Some z) = or_else (read_so ds n (codes " " ++ z)) (read_so ds n (codes " if " ++ z))
+-- A condition is read as it may stand after a line, and once more as it stands after `if`.
+abbrev pub when_for : List Declared → Option (List ℕ) → Option When
+when_for ds None = Some (record { of = None; condition = None })
+when_for ds (Some z) = or_condition (when_in ds 0 (words z)) (condition_in ds 0 (pieces_of [] (words z)))
 
 -- ---- what a breakpoint that is wanted comes to
 
-abbrev pub plan_with : ℕ → ℕ → Option Breakpoint → Plan
+abbrev pub plan_with : ℕ → ℕ → Option When → Plan
 plan_with given n None = Fails given trouble.BadCondition
-plan_with given n (Some b) = Sets given n b
+plan_with given n (Some w) = Sets given n w
 
 abbrev pub plan_at : List Declared → Wanted → Option ℕ → Plan
 plan_at ds w None = Fails w.line trouble.NoStatement
-plan_at ds w (Some n) = plan_with w.line n (read_for ds n w.condition)
+plan_at ds w (Some n) = plan_with w.line n (when_for ds w.condition)
 
 abbrev pub plan_of : Program → Wanted → Plan
 plan_of s w = plan_at s.decls w (line_from w.line s.lines)
@@ -114,13 +108,16 @@ mark_by given n (reply.Done v (answer.Added k)) = Set (one_more k) n
 mark_by given n (reply.Refused refused.BreaksFull) = Unset given trouble.Full
 mark_by given n other = Unset given trouble.BadCondition
 
+abbrev pub stop_at : ℕ → When → Breakpoint
+stop_at n w = on.Line n w.of w.condition
+
 abbrev pub mark_of : Held → Plan → Mark
 mark_of s (Fails given why) = Unset given why
-mark_of s (Sets given n b) = mark_by given n (replied s (command.Break b))
+mark_of s (Sets given n w) = mark_by given n (replied s (command.Break (stop_at n w)))
 
 abbrev pub held_after : Held → Plan → Held
 held_after s (Fails given why) = s
-held_after s (Sets given n b) = asked s (command.Break b)
+held_after s (Sets given n w) = asked s (command.Break (stop_at n w))
 
 -- one after another
 abbrev pub marks_of : Held → List Plan → List Mark

@@ -1,6 +1,5 @@
 -- What a message is answered, and where that leaves the adapter (docs/ADAPTER.md).
-use Rattle.std.specs.Prelude.{◌≡◌, ◌⊎◌, ◌==◌, ◌-◌, ℕ, Bool, true, false, not, if◌then◌else◌, List, [], ◌∷◌, ◌++◌, map, take, length, codes, bytes_eq, Result, Ok, Err, Option, Some, None, is_some, refl}
-use Rattle.std.specs.Fmt.{decimal}
+use Rattle.std.specs.Prelude.{◌≡◌, ◌⊎◌, ◌==◌, ◌-◌, ℕ, Bool, true, false, not, if◌then◌else◌, List, [], ◌∷◌, ◌++◌, map, take, length, bytes_eq, Result, Ok, Err, Option, Some, None, is_some, refl}
 use Rattle.std.specs.List.{range_with_len}
 use Rattle.std.specs.Coded.{Coded, code_by, coded×, coded_ℕ, coded_bool, coded_list, coded_option}
 use Rattle.serde_json.specs.Data.{Data}
@@ -9,8 +8,6 @@ use Rattle.mpd_vocabulary.specs.declared.word.Word.{Word}
 use Rattle.mpd_console.specs.Says.{Console, console_code, WordSays, ConsoleSays}
 use Rattle.mpd_dap.specs.declared.ask.Ask.{Ask}
 use Rattle.mpd_dap.specs.declared.ask.Ask.TheVariants as ask
-use Rattle.mpd_dap.specs.declared.ask.Manner.{Manner}
-use Rattle.mpd_dap.specs.declared.ask.Manner.TheVariants as manner
 use Rattle.mpd_dap.specs.declared.ask.Message.{Message}
 use Rattle.mpd_dap.specs.declared.ask.Wanted.{Wanted}
 use Rattle.mpd_dap.specs.declared.listed.Mark.{Mark}
@@ -27,13 +24,15 @@ use Rattle.mpd_adapter.specs.declared.moves.Move.{Move}
 use Rattle.mpd_adapter.specs.declared.moves.Move.TheVariants as move
 use Rattle.mpd_adapter.specs.declared.task.Look.{Look}
 use Rattle.mpd_adapter.specs.declared.task.Task.{Task}
-use Rattle.mpd_adapter.specs.declared.task.Task.TheVariants.{Refused, Looks, Launches, Begins, Ends, Marks, Moves, Evaluates}
+use Rattle.mpd_adapter.specs.declared.task.Task.TheVariants.{Refused, Looks, Launches, Begins, Ends, Marks, Moves, Types, Values}
 use Rattle.mpd_adapter.specs.Numbers.{one_more}
 use Rattle.mpd_adapter.specs.Moves.{after, word_in}
 use Rattle.mpd_adapter.specs.Halts.{stopped_in}
 use Rattle.mpd_adapter.specs.Looks.{IsBodyIn}
 use Rattle.mpd_adapter.specs.Marks.{marks_in, marked}
 use Rattle.mpd_adapter.specs.Tasks.{task_of}
+use Rattle.mpd_adapter.specs.declared.worth.RankWorth.{RankWorth}
+use Rattle.mpd_adapter.specs.Worths.{worths_in, IsWorth}
 use Rattle.mpd_adapter.specs.Answers.{Heard, Answer, IsSheet, frames_of, number_after}
 
 -- what the adapter holds: a console, the number of the next frame, the path of the script where a `launch` was answered, and whether
@@ -69,16 +68,6 @@ abbrev pub expression_of : Option Ask → List ℕ
 expression_of (Some (ask.Evaluate z m f)) = z
 expression_of other = []
 
--- ` 1`: the rank after it
-abbrev pub rank_behind : Option ℕ → List ℕ
-rank_behind None = []
-rank_behind (Some p) = 32 ∷ decimal p
-
--- the line of the console that an expression stands for
-abbrev pub line_for : Manner → Option ℕ → List ℕ → List ℕ
-line_for manner.Value p z = codes "print " ++ z ++ rank_behind p
-line_for manner.Line p z = z
-
 abbrev pub path_or : Option (List ℕ) → List ℕ
 path_or None = []
 path_or (Some path) = path
@@ -106,7 +95,7 @@ marks_by d m = marks_in (is_own d.path m.ask) d.console.session (wanted_of m.ask
 -- What a message stands for is said to the console, which answers by a text, of which nothing is told here, and is e then. Breakpoints are set by the session
 -- itself, without a word.
 abbrev pub Spoken : Adapter → Task → Message → List ℕ → Console → Type 0
-Spoken d (Evaluates n p) m said e = ConsoleSays d.console (line_for n p (expression_of m.ask)) said e
+Spoken d Types m said e = ConsoleSays d.console (expression_of m.ask) said e
 Spoken d Marks m said e = (said ≡ []) × (e ≡ record d.console { session = marked_by d m })
 Spoken d t m said e = WordsSay d.console (stands_for d.console.session t) e
 
@@ -158,10 +147,20 @@ abbrev pub looked : Option Data → Result Answer Refusal
 looked None = Err refusal.NotEnded
 looked (Some body) = Ok (body, [])
 
--- what is shown by a look; by another task nothing
-abbrev pub Shows : Adapter → Task → Option Data → Type 0
-Shows d (Looks l) shown = IsBodyIn d.console.session (path_or d.path) l shown
-Shows d other shown = shown ≡ None
+-- an expression is refused if it comes to nothing
+abbrev pub valued : Option Data → Result Answer Refusal
+valued None = Err refusal.NoValue
+valued (Some body) = Ok (body, [])
+
+-- what the expression of a message comes to, for the ranks that are meant
+abbrev pub worths_for : Adapter → Option Ask → Option ℕ → List RankWorth
+worths_for d a p = worths_in d.console.session (expression_of a) p
+
+-- what is shown by a look and of an expression; by another task nothing
+abbrev pub Shows : Adapter → Task → Message → Option Data → Type 0
+Shows d (Looks l) m shown = IsBodyIn d.console.session (path_or d.path) l shown
+Shows d (Values p) m shown = IsWorth (worths_for d m.ask p) shown
+Shows d other m shown = shown ≡ None
 
 abbrev pub announced : Event → Result Answer Refusal
 announced e = Ok (nothing_data, (e, nothing_data) ∷ [])
@@ -186,7 +185,8 @@ answer_of d Begins m text shown e = begun_answer d.console.session
 answer_of d Ends m text shown e = announced event.Terminated
 answer_of d Marks m text shown e = marked_answer (marks_by d m)
 answer_of d (Moves asked) m text shown e = moved_answer asked text e.session
-answer_of d (Evaluates n p) m text shown e = evaluated_answer (has_changed d.console.session e.session) text e.session
+answer_of d Types m text shown e = evaluated_answer (has_changed d.console.session e.session) text e.session
+answer_of d (Values p) m text shown e = valued shown
 
 -- ---- what changes besides the console
 
@@ -203,20 +203,32 @@ abbrev pub over_then : Bool → Task → Bool
 over_then over Ends = true
 over_then over other = over
 
+-- what leaves all as it is
+abbrev pub changes_none : Task → Bool
+changes_none (Refused r) = true
+changes_none (Looks l) = true
+changes_none (Values p) = true
+changes_none Begins = true
+changes_none other = false
+
 -- ---- the answer to a message
 
 -- This is written of a look.
 abbrev pub Looked : ℕ → Message → Held → List ℕ → Look → List ℕ → ℕ → Type 0
 Looked n m s path l text number = (shown : Option Data) × IsBodyIn s path l shown × IsSheet n (frames_of n m (looked shown)) text number
 
+-- This is written of what an expression comes to.
+abbrev pub Valued : ℕ → Message → List RankWorth → List ℕ → ℕ → Type 0
+Valued n m list text number = (shown : Option Data) × IsWorth list shown × IsSheet n (frames_of n m (valued shown)) text number
+
 -- The words are done, and this is written of them.
 abbrev pub Wrote : Adapter → Task → Message → Console → List ℕ → ℕ → Type 0
-Wrote d t m e text number = (said : List ℕ) × (shown : Option Data) × Spoken d t m said e × Shows d t shown × IsSheet d.number (frames_of d.number m (answer_of d t m said shown e)) text number
+Wrote d t m e text number = (said : List ℕ) × (shown : Option Data) × Spoken d t m said e × Shows d t m shown × IsSheet d.number (frames_of d.number m (answer_of d t m said shown e)) text number
 
 -- the same, frame by frame
 abbrev pub Told : Adapter → Task → Message → List (List ℕ) → Adapter → Type 0
 Told d t m frames e =
-    (said : List ℕ) × (shown : Option Data) × Spoken d t m said e.console × Shows d t shown × (frames ≡ frames_of d.number m (answer_of d t m said shown e.console)) × (e.number ≡ number_after d.number frames)
+    (said : List ℕ) × (shown : Option Data) × Spoken d t m said e.console × Shows d t m shown × (frames ≡ frames_of d.number m (answer_of d t m said shown e.console)) × (e.number ≡ number_after d.number frames)
     × (e.path ≡ path_then d.path t m.ask) × (e.is_over ≡ over_then d.is_over t)
 
 -- The console is as before, or its words are done.

@@ -5,6 +5,7 @@ use Rattle.mpd_dap.specs.declared.command.Command.TheVariants as command
 use Rattle.mpd_dap.specs.declared.ask.Ask.{Ask}
 use Rattle.mpd_dap.specs.declared.ask.Ask.TheVariants as ask
 use Rattle.mpd_dap.specs.declared.ask.Manner.{Manner}
+use Rattle.mpd_dap.specs.declared.ask.Manner.TheVariants as manner
 use Rattle.mpd_dap.specs.declared.ask.Message.{Message}
 use Rattle.mpd_dap.specs.declared.name.Refusal.{Refusal}
 use Rattle.mpd_dap.specs.declared.name.Refusal.TheVariants as refusal
@@ -13,7 +14,7 @@ use Rattle.mpd_adapter.specs.declared.moves.Move.TheVariants as move
 use Rattle.mpd_adapter.specs.declared.task.Look.{Look}
 use Rattle.mpd_adapter.specs.declared.task.Look.TheVariants as look
 use Rattle.mpd_adapter.specs.declared.task.Task.{Task}
-use Rattle.mpd_adapter.specs.declared.task.Task.TheVariants.{Refused, Looks, Launches, Begins, Ends, Marks, Moves, Evaluates}
+use Rattle.mpd_adapter.specs.declared.task.Task.TheVariants.{Refused, Looks, Launches, Begins, Ends, Marks, Moves, Types, Values}
 use Rattle.mpd_adapter.specs.Numbers.{rank_of_thread, shelf_of}
 
 -- ---- time
@@ -53,12 +54,17 @@ abbrev pub stepping : Option ℕ → Option ℕ → Task
 stepping None target = Refused refusal.BadNumber
 stepping (Some p) target = Moves (move.StepIn p target)
 
+-- a line of the console, or an expression of a rank or of all
+abbrev pub valuing : Manner → Option ℕ → Task
+valuing manner.Line p = Types
+valuing manner.Value p = Values p
+
 abbrev pub evaluating_of : Manner → Option ℕ → Task
 evaluating_of m None = Refused refusal.BadNumber
-evaluating_of m (Some p) = Evaluates m (Some p)
+evaluating_of m (Some p) = valuing m (Some p)
 
 abbrev pub evaluating : ℕ → Manner → Option ℕ → Task
-evaluating ranks m None = Evaluates m None
+evaluating ranks m None = valuing m None
 evaluating ranks m (Some f) = evaluating_of m (rank_of_thread f ranks)
 
 -- ---- what is asked

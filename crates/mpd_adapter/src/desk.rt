@@ -6,8 +6,9 @@ ghost use Rattle.serde_json.specs.View.{view};
 ghost use Rattle.mpd_frames.specs.Frame.{frame_text};
 ghost use Rattle.mpd_adapter.specs.Moves.{word_in as word_of_move, after as behind_move};
 ghost use Rattle.mpd_adapter.specs.Answers.{IsSheet, Tells, frames_of};
-ghost use Rattle.mpd_adapter.specs.declared.task.Task.TheVariants.{Marks, Moves, Evaluates};
+ghost use Rattle.mpd_adapter.specs.declared.task.Task.TheVariants.{Marks, Moves, Types};
 ghost use Rattle.mpd_adapter.specs.Says as spec;
+ghost use Rattle.mpd_adapter.specs.Worths.{worths_in};
 ghost use Rattle.mpd_console.specs.Says.{ConsoleSays};
 ghost use Rattle.mpd_adapter.specs.Says.{Wrote, Kept, Heeds, WordsSay};
 
@@ -16,18 +17,19 @@ use crate::looks::body_in;
 use crate::marks::set_marks;
 use crate::moves::{After, Move, word_in};
 use crate::numbers::{one_more, thread_of};
-use crate::sheet::{Sheet, begun, refusal, response, with_event, with_stop};
+use crate::sheet::{Sheet, announced, begun, refusal, response, with_event, with_stop};
 use crate::task::{Look, Task, task_of};
+use crate::worth::{RankWorth, named_worths, valued_worths, worth_body};
 use mpd_console::ConsoleDesk;
 use mpd_dap::{
-    Ask, Event, Json, Manner, Mark, Message, Refusal, Text, Wanted, all_continued, evaluated,
-    marks, message_of, nothing, output, push_memory, shown,
+    Ask, Event, Json, Mark, Message, Refusal, Text, Wanted, all_continued, evaluated, marks,
+    message_of, nothing, output, push_memory, shown,
 };
 use mpd_frames::FrameDesk;
 use mpd_lines::{LINE_ROOM, LineDesk, ROOM};
 use mpd_model::LINE_MAX;
 use mpd_session::{Command, Reply, Request, Session};
-use mpd_vocabulary::Word;
+use mpd_vocabulary::{Word, named_in};
 use std::alloc::{AllocError, Global};
 use std::marker::Model;
 
@@ -77,35 +79,6 @@ fn wanted_of(message: &Message) -> &[Wanted]
     }
 }
 
-/// Adds a rank after an expression, if there is one.
-fn push_rank_behind(out: &mut String, rank: Option<usize>) -> Result<(), AllocError>
-    ensures { OnOk result (string_bytes out.new ≡ string_bytes out.old ++ spec.rank_behind rank) }
-{
-    match rank {
-        None => Ok(()),
-        Some(rank) => write!(out, " {rank}"),
-    }
-}
-
-/// Adds the line of the console that an expression stands for.
-fn push_line(
-    out: &mut String,
-    manner: Manner,
-    rank: Option<usize>,
-    expression: &str,
-) -> Result<(), AllocError>
-    ensures { OnOk result (string_bytes out.new ≡ string_bytes out.old ++ spec.line_for manner rank expression.now) }
-{
-    match manner {
-        Manner::Line => out.push_str(expression),
-        Manner::Value => {
-            out.push_str("print ")?;
-            out.push_str(expression)?;
-            push_rank_behind(out, rank)
-        }
-    }
-}
-
 /// A text without its last line feed.
 #[tactic(auto, using(crate::proofs::DeskLemmas::feeding))]
 fn without_feed(text: &[u8]) -> &[u8]
@@ -144,6 +117,23 @@ fn evaluated_sheet(
     }
     let stands = stopped_in(alloc, session, After::Jump)?;
     with_event(alloc, number, message, body, Event::Stopped, stands)
+}
+
+/// The frames that tell what an expression comes to for the ranks that are meant, or refuse it.
+#[tactic(auto, using(crate::proofs::DeskLemmas::valuing))]
+fn worth_sheet(
+    alloc: Global,
+    number: u64,
+    message: &Message,
+    list: &[RankWorth],
+    meant: Option<usize>,
+) -> Result<Sheet, AllocError>
+    ensures { IfOk result (λ sheet. spec.Valued number message.now list.now sheet.text.items sheet.number) }
+{
+    match worth_body(alloc, list, meant)? {
+        None => refusal(alloc, number, message, Refusal::NoValue),
+        Some(body) => response(alloc, number, message, body),
+    }
 }
 
 /// The body of the response to a move.
@@ -194,20 +184,6 @@ fn marked_sheet(
 {
     let body = marks(alloc, list)?;
     response(alloc, number, message, body)
-}
-
-/// The frames that answer a message with nothing but an event, whose body is empty.
-fn announced(
-    alloc: Global,
-    number: u64,
-    message: &Message,
-    event: Event,
-) -> Result<Sheet, AllocError>
-    ensures { IfOk result (λ sheet. IsSheet number (frames_of number message.now (spec.announced event)) sheet.text.items sheet.number) }
-{
-    let body = nothing(alloc)?;
-    let told = nothing(alloc)?;
-    with_event(alloc, number, message, body, event, told)
 }
 
 /// The frames that answer a look.
@@ -397,40 +373,48 @@ impl<'c, 't> AdapterDesk<'c, 't> {
         Ok(text)
     }
 
-    /// The line that an expression stands for. An `Err` is want of memory.
-    fn line(
-        &self,
-        alloc: Global,
-        message: &Message,
-        manner: Manner,
-        rank: Option<usize>,
-    ) -> Result<String, AllocError>
-        ensures { IfOk result (λ line. string_bytes line ≡ spec.line_for manner rank (spec.expression_of message.now.ask)) }
-    {
-        let mut line = String::new(alloc);
-        push_line(&mut line, manner, rank, expression_of(message))?;
-        Ok(line)
-    }
-
-    /// Types the line that an expression stands for. An `Err` is want of memory, before or after it was answered.
+    /// Types an expression as a line. An `Err` is want of memory, before or after it was answered.
     #[tactic(auto, using(crate::proofs::DeskLemmas::talking))]
-    fn evaluate(
-        &mut self,
-        alloc: Global,
-        message: &Message,
-        manner: Manner,
-        rank: Option<usize>,
-    ) -> Result<Sheet, AllocError>
-        ensures wrote { IfOk result (λ sheet. Wrote self.old (Evaluates manner rank) message.now self.new.console sheet.text.items sheet.number) }
-        ensures kept { OnErr result (Kept self.old (Evaluates manner rank) message.now self.new.console) }
+    fn talk(&mut self, alloc: Global, message: &Message) -> Result<Sheet, AllocError>
+        ensures wrote { IfOk result (λ sheet. Wrote self.old Types message.now self.new.console sheet.text.items sheet.number) }
+        ensures kept { OnErr result (Kept self.old Types message.now self.new.console) }
         ensures same { self.new ≡ record self.old { console = self.new.console } }
     {
         let before = self.version(alloc)?;
-        let line = self.line(alloc, message, manner, rank)?;
-        let said = self.type_in(alloc, line.as_str())?;
+        let said = self.type_in(alloc, expression_of(message))?;
         let has_changed = self.version(alloc)? != before;
         let session = self.console.session();
         evaluated_sheet(alloc, session, self.number, message, has_changed, &said)
+    }
+
+    /// What an expression comes to, of a rank or of all: nothing if it is none. An `Err` is want of memory.
+    fn worths(
+        &self,
+        alloc: Global,
+        text: &str,
+        meant: Option<usize>,
+    ) -> Result<Vec<RankWorth>, AllocError>
+        ensures { IfOk result (λ list. list.items ≡ worths_in self.now.console.session text.now meant) }
+    {
+        let session = self.console.session();
+        if let Some(named) = named_in(session.code(), text.as_bytes()) {
+            return named_worths(alloc, session, named, meant);
+        }
+        let valued = self.console.evaluate(alloc, text.as_bytes())?;
+        valued_worths(alloc, &valued, meant)
+    }
+
+    /// Tells what the expression of a message comes to. An `Err` is want of memory.
+    fn value(
+        &self,
+        alloc: Global,
+        message: &Message,
+        meant: Option<usize>,
+    ) -> Result<Sheet, AllocError>
+        ensures { IfOk result (λ sheet. spec.Valued self.now.number message.now (spec.worths_for self.now message.now.ask meant) sheet.text.items sheet.number) }
+    {
+        let list = self.worths(alloc, expression_of(message), meant)?;
+        worth_sheet(alloc, self.number, message, &list, meant)
     }
 
     /// The frames that answer a message, which is done by the console. An `Err` is want of memory, before or after it was done.
@@ -456,7 +440,8 @@ impl<'c, 't> AdapterDesk<'c, 't> {
             Task::Ends => announced(alloc, number, message, Event::Terminated),
             Task::Marks => self.mark(alloc, message),
             Task::Moves(asked) => self.go(alloc, message, asked),
-            Task::Evaluates { manner, rank } => self.evaluate(alloc, message, manner, rank),
+            Task::Types => self.talk(alloc, message),
+            Task::Values(meant) => self.value(alloc, message, meant),
         }
     }
 

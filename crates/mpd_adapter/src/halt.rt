@@ -1,4 +1,4 @@
-//! Why and where a session stands still, as the event `stopped` tells it (docs/ADAPTER.md, "Moves").
+//! Why and where a session stands still, as the event `stopped` tells it (docs/ADAPTER.md, "Stops").
 
 ghost use Rattle.std.specs.Prelude.{◌≡◌, ◌++◌, IfOk, OnOk, string_bytes};
 ghost use Rattle.serde_json.specs.View.{view};

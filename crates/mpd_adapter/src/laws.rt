@@ -1,37 +1,30 @@
 //! Laws of what an editor is told (docs/ADAPTER.md, "Frames and messages").
-ghost use Rattle.std.specs.Prelude.{◌≡◌, ◌∷◌, [], ℕ, List, None, Ok, Option, Result};
-ghost use Rattle.serde_json.specs.Data.{Data};
-ghost use Rattle.mpd_session.specs.Held.{Held};
+ghost use Rattle.std.specs.Prelude.{◌≡◌, ℕ, List, None, Some, true};
 ghost use Rattle.mpd_console.specs.Says.{Console};
 ghost use Rattle.mpd_dap.specs.declared.ask.Message.{Message};
-ghost use Rattle.mpd_dap.specs.declared.name.Event.TheVariants as event;
-ghost use Rattle.mpd_dap.specs.declared.name.Refusal.{Refusal};
 ghost use Rattle.mpd_dap.specs.Messages.{message_in};
 ghost use Rattle.mpd_adapter.specs.declared.moves.Move.{Move};
-ghost use Rattle.mpd_adapter.specs.declared.task.Look.{Look};
 ghost use Rattle.mpd_adapter.specs.declared.task.Task.TheVariants as task;
-ghost use Rattle.mpd_adapter.specs.Moves.{after, word_in};
-ghost use Rattle.mpd_adapter.specs.Halts.{stopped_in};
-ghost use Rattle.mpd_adapter.specs.Answers.{Answer, frames_of};
-ghost use Rattle.mpd_adapter.specs.Laws.{IsHeaded, KeepsRest, SaysNothing};
-ghost use Rattle.mpd_adapter.specs.Says.{Adapter, Spoken, Says, answer_of, move_body, said_body, stands_for};
+ghost use Rattle.mpd_adapter.specs.Laws.{IsAnswered, IsQuiet, StopsLast, KeepsRest, SaysNothing};
+ghost use Rattle.mpd_adapter.specs.Says.{Adapter, Spoken, Says, changes_none, task_in};
 
-/// A law: a look stands for no word of the console, and leaves the console as it was.
-pub fn looks_change_nothing()
-    ensures words { (s : Held) (l : Look) → stands_for s (task.Looks l) ≡ [] }
-    ensures same { (d : Adapter) (m : Message) (l : Look) (said : List ℕ) (e : Console) → Spoken d (task.Looks l) m said e → e ≡ d.console }
-{}
-
-/// A law: of a message exactly one frame is a response, the first, with the message's number and command; all others are events, and
-/// their numbers follow one another.
+/// A law: what is written of a message is one response with its number and command, and then events,
+/// or the one frame that tells that memory was refused. All are numbered one after another, from the
+/// number that the adapter held, and it holds the next then.
 pub fn one_response_comes_first()
-    ensures { (n : ℕ) (m : Message) (r : Result Answer Refusal) → IsHeaded n m (frames_of n m r) }
+    ensures { (d : Adapter) (body : List ℕ) (m : Message) (frames : List (List ℕ)) (e : Adapter) → message_in body ≡ Some m → Says d body frames e → IsAnswered d m frames e }
 {}
 
-/// A law: a move stands for one word, and tells what the console says of it and then where the session stands; nothing follows.
+/// A law: a message that is refused, a look, an expression and `configurationDone` change nothing but
+/// the number of the next frame, whether memory is refused or not.
+pub fn looks_change_nothing()
+    ensures { (d : Adapter) (body : List ℕ) (m : Message) (frames : List (List ℕ)) (e : Adapter) → message_in body ≡ Some m → changes_none (task_in d m) ≡ true → Says d body frames e → IsQuiet d e }
+{}
+
+/// A law: of a move three frames are written, the last of which is the only `stopped`, and tells where
+/// the session stands then; or one, that memory was refused.
 pub fn moves_tell_where_they_stop()
-    ensures word { (s : Held) (m : Move) → stands_for s (task.Moves m) ≡ word_in s m ∷ [] }
-    ensures stop { (d : Adapter) (m : Move) (asked : Message) (text : List ℕ) (shown : Option Data) (e : Console) → answer_of d (task.Moves m) asked text shown e ≡ Ok (move_body m, (event.Output, said_body text) ∷ ((event.Stopped, stopped_in (after m) e.session) ∷ [])) }
+    ensures { (d : Adapter) (body : List ℕ) (m : Message) (asked : Move) (frames : List (List ℕ)) (e : Adapter) → message_in body ≡ Some m → task_in d m ≡ task.Moves asked → Says d body frames e → StopsLast d m asked frames e }
 {}
 
 /// A law: a body that is no message changes nothing, and nothing is told of it but that memory was refused, if it was.

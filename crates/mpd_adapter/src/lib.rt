@@ -12,6 +12,8 @@ mod rank;
 mod sheet;
 mod shelves;
 pub mod task;
+pub mod unread;
+pub mod worth;
 
 pub use desk::AdapterDesk;
 pub use halt::Halt;
@@ -22,3 +24,5 @@ pub use laws::{
 pub use moves::{After, Move, word_for};
 pub use numbers::{Scope, Shelf, rank_of_thread, shelf_of, thread_of};
 pub use task::{Look, Task};
+pub use unread::UnreadDesk;
+pub use worth::{RankWorth, Worth};

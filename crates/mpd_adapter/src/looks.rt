@@ -17,7 +17,7 @@ use mpd_dap::{
 };
 use mpd_explain::{End, PlacedStep, outcome_end, placed_step, push_candidate, push_end};
 use mpd_model::{Decision, Decl, Outcome, RANKS_MAX, Step};
-use mpd_names::stand;
+use mpd_names::{Marks, stand};
 use mpd_policy::decide;
 use mpd_session::Session;
 use std::alloc::{AllocError, Global};
@@ -185,7 +185,7 @@ fn candidates_of(alloc: Global, core: &Core<'_>, rank: usize) -> Result<Vec<Cand
 fn label(alloc: Global, decls: &[Decl], candidate: Candidate) -> Result<Text, AllocError> {
     let mut string = String::new(alloc);
     if let Some(step) = candidate.step {
-        push_candidate(&mut string, decls, false, &step)?;
+        push_candidate(&mut string, decls, Marks::none(), false, &step)?;
     }
     Ok(Text { string })
 }
@@ -244,7 +244,7 @@ fn end_name(outcome: &Outcome) -> &'static str
 /// What is told of how a run has ended.
 fn end_words(alloc: Global, decls: &[Decl], end: &End) -> Result<Text, AllocError> {
     let mut string = String::new(alloc);
-    push_end(&mut string, decls, end)?;
+    push_end(&mut string, decls, Marks::none(), end)?;
     Ok(Text { string })
 }
 

@@ -1,6 +1,6 @@
 //! The breakpoints that an editor sets (docs/ADAPTER.md, "Breakpoints").
 
-ghost use Rattle.std.specs.Prelude.{◌≡◌, ◌∷◌, ◌+◌, ◌++◌, ◌<◌, ◌≤◌, [], map, length, false, IfOk, OnOk, OnErr, string_bytes, vec_len, vec_capacity};
+ghost use Rattle.std.specs.Prelude.{◌≡◌, ◌∷◌, ◌+◌, ◌++◌, ◌<◌, ◌≤◌, [], map, length, false, Some, IfOk, OnOk, OnErr, vec_len, vec_capacity};
 ghost use Rattle.mpd_session.specs.Respond.{may_want};
 ghost use Rattle.mpd_adapter.specs.Marks as spec;
 
@@ -10,7 +10,7 @@ use mpd_console::ConsoleDesk;
 use mpd_dap::{Mark, Trouble, Wanted};
 use mpd_model::{BREAKS_MAX, Breakpoint};
 use mpd_session::{Answer, Command, Refusal, Reply, Request};
-use mpd_vocabulary::{Line, Word, line_of};
+use mpd_vocabulary::{When, condition_in, when_in};
 use std::alloc::{AllocError, Global};
 
 /// What a breakpoint that is wanted comes to, before any is set.
@@ -29,8 +29,8 @@ pub enum Plan {
         given: usize,
         /// The line of it, from 1.
         line: usize,
-        /// The breakpoint.
-        stop: Breakpoint,
+        /// When it stops there.
+        when: When,
     },
 }
 
@@ -107,88 +107,50 @@ fn line_from(from: usize, lines: &[usize]) -> Option<usize>
     found
 }
 
-/// The breakpoint of a line that a line of the console sets, if it sets one.
-fn set_by(line: Line) -> Option<Breakpoint>
-    ensures { result ≡ spec.set_by line }
+/// When a breakpoint stops that has a condition, before which `if` may be left out.
+fn when_for(code: &Code, condition: &[u8]) -> Option<When>
+    ensures { result ≡ spec.when_for code.now.program.decls (Some condition.now) }
 {
-    match line {
-        Line::Says(Word::Break(stop)) => match stop {
-            Breakpoint::Line { .. } => Some(stop),
-            _ => None,
+    match when_in(code, 0, condition) {
+        Ok(when) => Some(when),
+        Err(_) => match condition_in(code, 0, condition) {
+            Ok(condition) => Some(When {
+                of: None,
+                condition: Some(condition),
+            }),
+            Err(_) => None,
         },
-        _ => None,
     }
 }
 
-/// Adds the line of the console that sets a breakpoint of a line, with what stands after it.
-fn push_break(out: &mut String, line: usize, lead: &str, condition: &str) -> Result<(), AllocError>
-    ensures { OnOk result (string_bytes out.new ≡ string_bytes out.old ++ spec.break_words line (lead.now ++ condition.now)) }
-{
-    write!(out, "break {line}")?;
-    out.push_str(lead)?;
-    out.push_str(condition)
-}
-
-/// The breakpoint that the console reads from a line of the script with what stands after it.
-fn read_so(
-    alloc: Global,
-    code: &Code,
-    line: usize,
-    lead: &str,
-    condition: &str,
-) -> Result<Option<Breakpoint>, AllocError>
-    ensures { IfOk result (λ stop. stop ≡ spec.read_so code.now.program.decls line (lead.now ++ condition.now)) }
-{
-    let mut text = String::new(alloc);
-    push_break(&mut text, line, lead, condition)?;
-    Ok(set_by(line_of(code, text.as_bytes())))
-}
-
-/// The same of a condition, before which `if` may be left out.
-fn read_either(
-    alloc: Global,
-    code: &Code,
-    line: usize,
-    condition: &str,
-) -> Result<Option<Breakpoint>, AllocError>
-    ensures { IfOk result (λ stop. stop ≡ spec.read_for code.now.program.decls line (Some condition.now)) }
-{
-    match read_so(alloc, code, line, " ", condition)? {
-        Some(stop) => Ok(Some(stop)),
-        None => read_so(alloc, code, line, " if ", condition),
-    }
-}
-
-/// The same of what is wanted, if it has a condition.
-fn read_for(
-    alloc: Global,
-    code: &Code,
-    line: usize,
-    wanted: &Wanted,
-) -> Result<Option<Breakpoint>, AllocError>
-    ensures { IfOk result (λ stop. stop ≡ spec.read_for code.now.program.decls line wanted.now.condition) }
+/// The same of what is wanted, which may have no condition.
+fn when_of(code: &Code, wanted: &Wanted) -> Option<When>
+    ensures { result ≡ spec.when_for code.now.program.decls wanted.now.condition }
 {
     match &wanted.condition {
-        None => read_so(alloc, code, line, "", ""),
-        Some(condition) => read_either(alloc, code, line, condition.as_str()),
+        None => Some(When {
+            of: None,
+            condition: None,
+        }),
+        Some(condition) => when_for(code, condition.as_str().as_bytes()),
     }
 }
 
 /// What a breakpoint that is wanted comes to.
-fn plan_of(alloc: Global, code: &Code, wanted: &Wanted) -> Result<Plan, AllocError>
-    ensures { IfOk result (λ plan. plan ≡ spec.plan_of code.now.program wanted.now) }
+fn plan_of(code: &Code, wanted: &Wanted) -> Plan
+    ensures { result ≡ spec.plan_of code.now.program wanted.now }
 {
     let given = wanted.line;
     let Some(line) = line_from(given, code.lines()) else {
         let trouble = Trouble::NoStatement;
-        return Ok(Plan::Fails { given, trouble });
+        return Plan::Fails { given, trouble };
     };
-    match read_for(alloc, code, line, wanted)? {
+    match when_of(code, wanted) {
         None => {
             let trouble = Trouble::BadCondition;
-            Ok(Plan::Fails { given, trouble })
+            Plan::Fails { given, trouble }
         }
-        Some(stop) => Ok(Plan::Sets { given, line, stop }),
+        Some(when) => Plan::Sets { given, line, when },
     }
 }
 
@@ -198,9 +160,20 @@ fn plans_of(alloc: Global, code: &Code, wanted: &[Wanted]) -> Result<Vec<Plan>, 
 {
     let mut plans = Vec::new(alloc);
     for one in wanted {
-        plans.push(plan_of(alloc, code, one)?)?;
+        plans.push(plan_of(code, one))?;
     }
     Ok(plans)
+}
+
+/// The breakpoint of a line that stops so.
+fn stop_at(line: usize, when: When) -> Breakpoint
+    ensures { result ≡ spec.stop_at line when }
+{
+    Breakpoint::Line {
+        line,
+        of: when.of,
+        when: when.condition,
+    }
 }
 
 /// What becomes of a breakpoint, by the reply to the request for it.
@@ -236,8 +209,8 @@ fn set(console: &mut ConsoleDesk<'_, '_>, alloc: Global, plan: Plan) -> Mark
             line: given,
             trouble,
         },
-        Plan::Sets { given, line, stop } => {
-            let reply = ask(console, alloc, Command::Break(stop));
+        Plan::Sets { given, line, when } => {
+            let reply = ask(console, alloc, Command::Break(stop_at(line, when)));
             mark_by(given, line, &reply)
         }
     }

@@ -4,7 +4,7 @@ ghost use Rattle.std.specs.Prelude.{◌≡◌};
 ghost use Rattle.mpd_adapter.specs.Looks as spec;
 
 use mpd_core::Core;
-use mpd_names::{Stands, stands};
+use mpd_names::{MarkedStands, Marks, Stands, stands};
 use std::fmt;
 
 /// A rank and what it is doing. Its words are `rank 0 waits at line 9, 0.1 recv from 1 tag 7`.
@@ -20,7 +20,10 @@ impl fmt::Display for RankDoing {
     fn fmt<W: fmt::Write>(&self, f: &mut fmt::Formatter<W>) -> fmt::Result {
         match self.stands {
             None => write!(f, "rank {}", self.rank),
-            Some(stands) => write!(f, "rank {}{stands}", self.rank),
+            Some(stands) => {
+                let stands = MarkedStands(stands, Marks::none());
+                write!(f, "rank {}{stands}", self.rank)
+            }
         }
     }
 }

@@ -3,13 +3,17 @@
 ghost use Rattle.std.specs.Prelude.{◌≡◌, ◌∷◌, ◌++◌, [], IfOk, OnOk, Ok, Err};
 ghost use Rattle.serde_json.specs.View.{view};
 ghost use Rattle.mpd_frames.specs.Frame.{frame_text};
-ghost use Rattle.mpd_dap.specs.Told.{response_text, refusal_text, event_text};
+ghost use Rattle.mpd_dap.specs.Told.{response_text, refusal_text, failure_text, event_text};
 ghost use Rattle.mpd_adapter.specs.Numbers.{one_more};
 ghost use Rattle.mpd_adapter.specs.Answers.{IsSheet, Tells, frames_of};
-ghost use Rattle.mpd_adapter.specs.Says.{all_started, started as started_at};
+ghost use Rattle.mpd_adapter.specs.Says.{all_started, announced, started as started_at};
+ghost use Rattle.mpd_adapter.specs.Unread.{failed_frames};
 
 use crate::numbers::{one_more, thread_of};
-use mpd_dap::{Event, Json, Message, Refusal, push_event, push_refusal, push_response, started};
+use mpd_dap::{
+    Event, Json, Message, Refusal, nothing, push_event, push_failure, push_refusal, push_response,
+    started,
+};
 use std::alloc::{AllocError, Global};
 
 /// Frames one after another, and the number of the next.
@@ -58,6 +62,17 @@ impl Sheet {
         Ok(())
     }
 
+    /// Adds the response that refuses a message, as the script could not be read, with what a person is told of it.
+    fn fail(&mut self, alloc: Global, message: &Message, told: &str) -> Result<(), AllocError>
+        ensures text { OnOk result (self.new.text.items ≡ self.old.text.items ++ frame_text (failure_text self.old.number message.now.seq message.now.name Refusal.NotRead told.now)) }
+        ensures number { OnOk result (self.new.number ≡ one_more self.old.number) }
+    {
+        let why = Refusal::NotRead;
+        push_failure(alloc, &mut self.text, self.number, message, why, told)?;
+        self.number = one_more(self.number);
+        Ok(())
+    }
+
     /// Adds an event.
     pub(crate) fn tell(&mut self, alloc: Global, event: Event, body: Json) -> Result<(), AllocError>
         ensures text { OnOk result (self.new.text.items ≡ self.old.text.items ++ frame_text (event_text self.old.number event (view body.value))) }
@@ -81,6 +96,21 @@ pub(crate) fn refusal(
 {
     let mut sheet = Sheet::new(alloc, number);
     sheet.refuse(alloc, message, refusal)?;
+    Ok(sheet)
+}
+
+/// The frame that refuses a message, as the script could not be read, with what a person is told of it.
+#[tactic(auto, using(crate::proofs::SheetLemmas::sheets))]
+pub(crate) fn failure(
+    alloc: Global,
+    number: u64,
+    message: &Message,
+    told: &str,
+) -> Result<Sheet, AllocError>
+    ensures { IfOk result (λ sheet. IsSheet number (failed_frames number message.now told.now) sheet.text.items sheet.number) }
+{
+    let mut sheet = Sheet::new(alloc, number);
+    sheet.fail(alloc, message, told)?;
     Ok(sheet)
 }
 
@@ -115,6 +145,20 @@ pub(crate) fn with_event(
     sheet.respond(alloc, message, body)?;
     sheet.tell(alloc, event, told)?;
     Ok(sheet)
+}
+
+/// The frames that answer a message with nothing but an event, whose body is empty.
+pub(crate) fn announced(
+    alloc: Global,
+    number: u64,
+    message: &Message,
+    event: Event,
+) -> Result<Sheet, AllocError>
+    ensures { IfOk result (λ sheet. IsSheet number (frames_of number message.now (announced event)) sheet.text.items sheet.number) }
+{
+    let body = nothing(alloc)?;
+    let told = nothing(alloc)?;
+    with_event(alloc, number, message, body, event, told)
 }
 
 /// The response to a move, what the console says of it, and where the session stands.

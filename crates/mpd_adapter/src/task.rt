@@ -45,13 +45,10 @@ pub enum Task {
     Marks,
     /// It stands for a word of the console.
     Moves(Move),
-    /// It stands for a line of the console.
-    Evaluates {
-        /// How its expression is meant.
-        manner: Manner,
-        /// The rank that the expression is about, from 0, if it is about one alone.
-        rank: Option<usize>,
-    },
+    /// It is a line of the console.
+    Types,
+    /// What an expression comes to is told, of this rank, from 0, or of all.
+    Values(Option<usize>),
 }
 
 /// Why a command that comes too early, or too late, is refused, given whether a `launch` was answered.
@@ -106,19 +103,26 @@ fn stepping(rank: Option<usize>, target: Option<usize>) -> Task
     }
 }
 
+/// What an expression that is meant so comes to, of a rank or of all.
+fn valuing(manner: Manner, rank: Option<usize>) -> Task
+    ensures { result ≡ spec.valuing manner rank }
+{
+    match manner {
+        Manner::Line => Task::Types,
+        Manner::Value => Task::Values(rank),
+    }
+}
+
 /// What `evaluate` comes to, of so many ranks.
 fn evaluating(ranks: usize, manner: Manner, frame: Option<usize>) -> Task
     ensures { result ≡ spec.evaluating ranks manner frame }
 {
     let Some(frame) = frame else {
-        return Task::Evaluates { manner, rank: None };
+        return valuing(manner, None);
     };
     match rank_of_thread(frame, ranks) {
         None => Task::Refused(Refusal::BadNumber),
-        Some(rank) => Task::Evaluates {
-            manner,
-            rank: Some(rank),
-        },
+        Some(rank) => valuing(manner, Some(rank)),
     }
 }
 

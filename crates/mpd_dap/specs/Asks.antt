@@ -1,5 +1,5 @@
 -- What a message asks, by its command and its arguments.
-use Rattle.std.specs.Prelude.{ℕ, ◌||◌, List, [], ◌∷◌, length, codes, if◌then◌else◌, nat_le, Option, Some, None, option_map, option_and_then, bytes_eq}
+use Rattle.std.specs.Prelude.{ℕ, List, [], ◌∷◌, length, codes, if◌then◌else◌, nat_le, Option, Some, None, option_map, option_and_then, bytes_eq}
 use Rattle.serde_json.specs.Data.{Data, Items, no_items, item}
 use Rattle.serde_json.specs.Find.{get, as_array, as_bool}
 use Rattle.mpd_dap.specs.declared.command.Command.{Command}
@@ -9,7 +9,7 @@ use Rattle.mpd_dap.specs.declared.ask.Ask.TheVariants as ask
 use Rattle.mpd_dap.specs.declared.ask.Manner.{Manner}
 use Rattle.mpd_dap.specs.declared.ask.Manner.TheVariants as manner
 use Rattle.mpd_dap.specs.declared.ask.Wanted.{Wanted}
-use Rattle.mpd_dap.specs.Fields.{number_at, text_at, optional_number_at, optional_text_at}
+use Rattle.mpd_dap.specs.Fields.{number_at, text_at, present, optional_number_at, optional_text_at}
 
 -- ---- fields that several commands have
 
@@ -27,7 +27,7 @@ initialized_by None = Some ask.Initialize
 initialized_by (Some d) = option_and_then (λ b. if b then Some ask.Initialize else None) (as_bool d)
 
 abbrev pub initialize_in : Data → Option Ask
-initialize_in d = initialized_by (get (codes "linesStartAt1") d)
+initialize_in d = initialized_by (present (codes "linesStartAt1") d)
 
 -- ---- breakpoints
 
@@ -63,7 +63,7 @@ breakpoints_with (Some path) None = None
 breakpoints_with (Some path) (Some ws) = Some (ask.SetBreakpoints path ws)
 
 abbrev pub set_breakpoints_in : Data → Option Ask
-set_breakpoints_in d = breakpoints_with (path_at d) (wanted_in (get (codes "breakpoints") d))
+set_breakpoints_in d = breakpoints_with (path_at d) (wanted_in (present (codes "breakpoints") d))
 
 -- ---- moves
 
@@ -75,8 +75,8 @@ step_in_with (Some n) (Some target) = Some (ask.StepIn n target)
 -- ---- expressions
 
 abbrev pub manner_of : Option (List ℕ) → Manner
-manner_of None = manner.Line
-manner_of (Some z) = if bytes_eq z (codes "hover") || bytes_eq z (codes "watch") then manner.Value else manner.Line
+manner_of None = manner.Value
+manner_of (Some z) = if bytes_eq z (codes "repl") then manner.Line else manner.Value
 
 abbrev pub EXPRESSION_MAX : ℕ
 EXPRESSION_MAX = 4000

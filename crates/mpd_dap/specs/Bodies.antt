@@ -35,8 +35,8 @@ unfoldable pub capabilities_data : Data
 capabilities_data =
     fields ((codes "supportsConditionalBreakpoints", boolean true) ∷ (codes "supportsConfigurationDoneRequest", boolean true)
     ∷ (codes "supportsEvaluateForHovers", boolean true) ∷ (codes "supportsExceptionInfoRequest", boolean true)
-    ∷ (codes "supportsRestartRequest", boolean true) ∷ (codes "supportsStepBack", boolean true)
-    ∷ (codes "supportsStepInTargetsRequest", boolean true) ∷ (codes "supportsTerminateRequest", boolean true) ∷ [])
+    ∷ (codes "supportsStepBack", boolean true) ∷ (codes "supportsStepInTargetsRequest", boolean true)
+    ∷ (codes "supportsTerminateRequest", boolean true) ∷ [])
 
 -- ---- looks
 

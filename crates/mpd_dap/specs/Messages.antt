@@ -1,8 +1,8 @@
 -- The message that a body is.
-use Rattle.std.specs.Prelude.{ℕ, ◌&&◌, List, codes, Bool, false, if◌then◌else◌, Option, Some, None, is_some, option_and_then, bytes_eq}
+use Rattle.std.specs.Prelude.{ℕ, List, codes, Bool, false, if◌then◌else◌, Option, Some, None, option_and_then, bytes_eq}
 use Rattle.std.specs.Str.{is_utf8}
-use Rattle.serde_json.specs.Data.{Data, object, no_members}
-use Rattle.serde_json.specs.Find.{get, as_object}
+use Rattle.serde_json.specs.Data.{Data, null}
+use Rattle.serde_json.specs.Find.{get}
 use Rattle.serde_json.specs.Read.{read}
 use Rattle.mpd_dap.specs.declared.command.Command.{Command}
 use Rattle.mpd_dap.specs.declared.ask.Message.{Message}
@@ -14,9 +14,9 @@ use Rattle.mpd_dap.specs.Asks.{ask_in}
 unfoldable pub json_of : List ℕ → Option Data
 json_of body = if is_utf8 body then read body else None
 
--- no arguments stand for an empty object
+-- arguments that are no object have no field, and so have none at all
 abbrev pub arguments_or : Option Data → Data
-arguments_or None = object no_members
+arguments_or None = null
 arguments_or (Some d) = d
 
 abbrev pub arguments_of : Data → Data
@@ -26,9 +26,9 @@ abbrev pub is_of_kind : Option (List ℕ) → Bool
 is_of_kind None = false
 is_of_kind (Some z) = bytes_eq z (codes "request")
 
--- an object whose type is that of a request, and whose arguments are an object
+-- an object whose type is that of a request
 abbrev pub is_request : Data → Bool
-is_request d = is_of_kind (text_at (codes "type") d) && is_some (as_object (arguments_of d))
+is_request d = is_of_kind (text_at (codes "type") d)
 
 abbrev pub message_with : ℕ → List ℕ → Option Command → Data → Message
 message_with seq name command d = record { seq = seq; name = name; command = command; ask = option_and_then (λ c. ask_in c d) command }

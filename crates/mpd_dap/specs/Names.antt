@@ -16,6 +16,8 @@ refusal_name refusal.NotLaunched = codes "not-launched"
 refusal_name refusal.Launched = codes "launched"
 refusal_name refusal.BadNumber = codes "bad-number"
 refusal_name refusal.NotEnded = codes "not-ended"
+refusal_name refusal.NoValue = codes "no-value"
+refusal_name refusal.NotRead = codes "not-read"
 
 abbrev pub event_name : Event → List ℕ
 event_name event.Initialized = codes "initialized"

@@ -19,6 +19,15 @@ refusal_data seq request command refusal =
     fields ((codes "command", string command) ∷ (codes "message", string (refusal_name refusal)) ∷ (codes "request_seq", natural request) ∷ (codes "seq", natural seq)
     ∷ (codes "success", boolean false) ∷ (codes "type", string (codes "response")) ∷ [])
 
+-- the same with what a person is told of it
+abbrev pub error_data : List ℕ → Data
+error_data told = fields ((codes "error", fields ((codes "format", string told) ∷ (codes "id", natural 1) ∷ (codes "showUser", boolean true) ∷ [])) ∷ [])
+
+unfoldable pub failure_data : ℕ → ℕ → List ℕ → Refusal → List ℕ → Data
+failure_data seq request command refusal told =
+    fields ((codes "body", error_data told) ∷ (codes "command", string command) ∷ (codes "message", string (refusal_name refusal)) ∷ (codes "request_seq", natural request)
+    ∷ (codes "seq", natural seq) ∷ (codes "success", boolean false) ∷ (codes "type", string (codes "response")) ∷ [])
+
 unfoldable pub event_data : ℕ → Event → Data → Data
 event_data seq event body =
     fields ((codes "body", body) ∷ (codes "event", string (event_name event)) ∷ (codes "seq", natural seq) ∷ (codes "type", string (codes "event")) ∷ [])
@@ -29,6 +38,9 @@ response_text seq request command body = compact_text (response_data seq request
 
 abbrev pub refusal_text : ℕ → ℕ → List ℕ → Refusal → List ℕ
 refusal_text seq request command refusal = compact_text (refusal_data seq request command refusal)
+
+abbrev pub failure_text : ℕ → ℕ → List ℕ → Refusal → List ℕ → List ℕ
+failure_text seq request command refusal told = compact_text (failure_data seq request command refusal told)
 
 abbrev pub event_text : ℕ → Event → Data → List ℕ
 event_text seq event body = compact_text (event_data seq event body)

@@ -10,7 +10,7 @@ use Rattle.mpd_dap.specs.declared.name.Trouble.TheVariants as trouble
 use Rattle.mpd_dap.specs.declared.listed.Mark.TheVariants as mark
 use Rattle.mpd_dap.specs.Shown.{shown_byte}
 use Rattle.mpd_dap.specs.Bodies.{nothing_data, threads_data, standing_data, ended_data, scopes_data, variables_data, targets_data, exception_data, marks_data, continued_data, evaluated_data, started_data, output_data, stopped_data}
-use Rattle.mpd_dap.specs.Told.{response_data, refusal_data, event_data, response_text, refusal_text, event_text, memory_text}
+use Rattle.mpd_dap.specs.Told.{response_data, refusal_data, failure_data, event_data, response_text, refusal_text, failure_text, event_text, memory_text}
 
 pub row_shown : map shown_byte (0 ∷ 9 ∷ 10 ∷ 13 ∷ 31 ∷ 32 ∷ 126 ∷ 127 ∷ 255 ∷ []) ≡ 63 ∷ 9 ∷ 10 ∷ 63 ∷ 63 ∷ 32 ∷ 126 ∷ 63 ∷ 63 ∷ []
 row_shown = refl
@@ -22,6 +22,11 @@ pub row_told : response_text 2 7 (codes "pause") nothing_data ∷ refusal_text 3
     ∷ codes "{\"body\":{\"category\":\"important\",\"output\":\"refused: memory\\n\"},\"event\":\"output\",\"seq\":5,\"type\":\"event\"}" ∷ []
 unfolding response_data refusal_data event_data memory_text nothing_data digits serde_json_on_literals
 row_told = refl
+
+pub row_failure : failure_text 2 7 (codes "launch") refusal.NotRead (codes "no { here")
+    ≡ codes "{\"body\":{\"error\":{\"format\":\"no { here\",\"id\":1,\"showUser\":true}},\"command\":\"launch\",\"message\":\"not-read\",\"request_seq\":7,\"seq\":2,\"success\":false,\"type\":\"response\"}"
+unfolding failure_data digits serde_json_on_literals
+row_failure = refl
 
 pub row_looks : map compact_text (threads_data (record { id = 1; name = codes "a" } ∷ record { id = 2; name = codes "b" } ∷ []) ∷ standing_data 2 9 (codes "n") (codes "p") ∷ ended_data 2 (codes "n")
     ∷ variables_data (record { name = codes "x"; value = codes "3" } ∷ []) ∷ targets_data (record { id = 1; label = codes "t" } ∷ []) ∷ exception_data (codes "trap") (codes "d") ∷ [])

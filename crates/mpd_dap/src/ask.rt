@@ -34,10 +34,10 @@ impl Model for WantedList {
 /// How an expression is meant.
 #[derive(Clone, Copy)]
 pub enum Manner {
-    /// As a value to be shown: the context is `hover` or `watch`.
-    Value,
-    /// As a line of the console: there is another context, or none.
+    /// As a line of the console: the context is `repl`.
     Line,
+    /// As an expression whose value is shown: there is another context, or none.
+    Value,
 }
 
 /// What a message asks, by its command. Threads, frames, references and targets are numbers as they were given.

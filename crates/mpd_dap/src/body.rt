@@ -35,7 +35,6 @@ pub fn capabilities(alloc: Global) -> Result<Json, AllocError>
         "supportsConfigurationDoneRequest": true,
         "supportsEvaluateForHovers": true,
         "supportsExceptionInfoRequest": true,
-        "supportsRestartRequest": true,
         "supportsStepBack": true,
         "supportsStepInTargetsRequest": true,
         "supportsTerminateRequest": true

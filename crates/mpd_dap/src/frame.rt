@@ -94,6 +94,53 @@ pub fn push_refusal(
     push_json(alloc, out, refusal_of(alloc, seq, message, refusal)?)
 }
 
+/// What is told of a failure, as JSON.
+fn error_of(alloc: Global, told: &str) -> Result<Value, AllocError>
+    ensures { IfOk result (λ v. view v ≡ spec.error_data told.now) }
+{
+    let error = json!(in alloc; {"format": told, "id": 1usize, "showUser": true})?;
+    json!(in alloc; {"error": error})
+}
+
+/// A refusal with what a person is told of it, as JSON.
+#[tactic(auto, unfolding(crate::specs::Told::failure_data))]
+fn failure_of(
+    alloc: Global,
+    seq: u64,
+    refused: &Message,
+    refusal: Refusal,
+    told: &str,
+) -> Result<Json, AllocError>
+    ensures { IfOk result (λ j. view j.value ≡ spec.failure_data seq refused.now.seq refused.now.name refusal told.now) }
+{
+    let body = error_of(alloc, told)?;
+    let name = refusal.name();
+    let value = json!(in alloc; {
+        "body": body,
+        "command": refused.name.as_str(),
+        "message": name,
+        "request_seq": refused.seq,
+        "seq": seq, "success": false, "type": "response"
+    })?;
+    Ok(Json { value })
+}
+
+/// Adds the frame of the response with a number that refuses a message, and has what a person is told of it.
+pub fn push_failure(
+    alloc: Global,
+    out: &mut Vec<u8>,
+    seq: u64,
+    message: &Message,
+    refusal: Refusal,
+    told: &str,
+) -> Result<(), AllocError>
+    ensures items { OnOk result (out.new.items ≡ out.old.items ++ frame_text (spec.failure_text seq message.now.seq message.now.name refusal told.now)) }
+    ensures same { OnErr result (out.new.items ≡ out.old.items) }
+    ensures capacity { vec_capacity out.old ≤ vec_capacity out.new }
+{
+    push_json(alloc, out, failure_of(alloc, seq, message, refusal, told)?)
+}
+
 /// An event as JSON.
 #[tactic(auto, using(crate::proofs::PlainLemmas::event_plain), unfolding(crate::specs::Told::event_data))]
 fn event_of(alloc: Global, seq: u64, event: Event, body: Json) -> Result<Json, AllocError>

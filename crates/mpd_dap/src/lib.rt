@@ -23,7 +23,7 @@ pub use body::{
     standing_frame, started, stopped,
 };
 pub use command::Command;
-pub use frame::{push_event, push_memory, push_refusal, push_response};
+pub use frame::{push_event, push_failure, push_memory, push_refusal, push_response};
 pub use laws::a_response_has_its_request;
 pub use listed::{Mark, Target, Thread, Variable, marks, targets, threads, variables};
 pub use message::message_of;

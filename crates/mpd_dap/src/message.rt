@@ -11,7 +11,7 @@ use crate::command::Command;
 use crate::fields::{long_number_at, text_at};
 use crate::reader::ask_in;
 use crate::text::Text;
-use serde_json::{Map, Value};
+use serde_json::Value;
 use std::alloc::{AllocError, Global};
 
 /// The JSON value of some bytes; `None` if they are no JSON text in UTF-8, or arrays and objects stand in more than 127 others. An
@@ -27,14 +27,13 @@ fn json_of(alloc: Global, body: &[u8]) -> Result<Option<Value>, AllocError>
     }
 }
 
-/// Whether a value is an object with the type of a request, and its arguments are an object.
-fn is_request(value: &Value, arguments: &Value) -> bool
-    requires { view arguments.now ≡ spec.arguments_of (view value.now) }
+/// Whether a value is an object with the type of a request.
+fn is_request(value: &Value) -> bool
     ensures { result ≡ spec.is_request (view value.now) }
 {
     match text_at(value, "type") {
         None => false,
-        Some(kind) => kind == "request" && arguments.is_object(),
+        Some(kind) => kind == "request",
     }
 }
 
@@ -87,7 +86,7 @@ fn message_from(
     requires { view arguments.now ≡ spec.arguments_of (view value.now) }
     ensures { IfOk result (λ m. m ≡ spec.message_from (view value.now)) }
 {
-    if !is_request(value, arguments) {
+    if !is_request(value) {
         return Ok(None);
     }
     let Some(seq) = long_number_at(value, "seq") else {
@@ -105,10 +104,7 @@ fn message_of_value(alloc: Global, value: &Value) -> Result<Option<Message>, All
 {
     match value.get("arguments") {
         Some(arguments) => message_from(alloc, value, arguments),
-        None => {
-            let nothing = Value::Object(Map::new(alloc));
-            message_from(alloc, value, &nothing)
-        }
+        None => message_from(alloc, value, &Value::Null),
     }
 }
 

@@ -18,6 +18,10 @@ pub enum Refusal {
     BadNumber,
     /// The run isn't at an end.
     NotEnded,
+    /// A text is no expression that has a value.
+    NoValue,
+    /// The script, or what lies ahead of it, could not be read.
+    NotRead,
 }
 
 impl Refusal {
@@ -32,6 +36,8 @@ impl Refusal {
             Refusal::Launched => "launched",
             Refusal::BadNumber => "bad-number",
             Refusal::NotEnded => "not-ended",
+            Refusal::NoValue => "no-value",
+            Refusal::NotRead => "not-read",
         }
     }
 }

@@ -8,7 +8,7 @@ ghost use Rattle.mpd_dap.specs.declared.ask.Ask.TheVariants as ask;
 
 use crate::ask::{Ask, Manner, Wanted, WantedList};
 use crate::command::Command;
-use crate::fields::{number_at, optional_number_at, optional_text_at, text_at};
+use crate::fields::{number_at, optional_number_at, optional_text_at, present, text_at};
 use crate::text::Text;
 use serde_json::Value;
 use std::alloc::{AllocError, Global};
@@ -39,7 +39,7 @@ fn owned_if(alloc: Global, text: Option<&str>) -> Result<Option<Text>, AllocErro
 fn initialize_in(arguments: &Value) -> Option<Ask>
     ensures { result ≡ spec.initialize_in (view arguments.now) }
 {
-    match arguments.get("linesStartAt1") {
+    match present(arguments, "linesStartAt1") {
         None => Some(Ask::Initialize),
         Some(value) => match value.as_bool() {
             Some(true) => Some(Ask::Initialize),
@@ -120,7 +120,7 @@ fn set_breakpoints_in(alloc: Global, arguments: &Value) -> Result<Option<Ask>, A
     let Some(path) = path_at(arguments) else {
         return Ok(None);
     };
-    let Some(wanted) = wanted_in(alloc, arguments.get("breakpoints"))? else {
+    let Some(wanted) = wanted_in(alloc, present(arguments, "breakpoints"))? else {
         return Ok(None);
     };
     match owned(alloc, path) {
@@ -160,8 +160,8 @@ fn manner_of(context: Option<&str>) -> Manner
     ensures { result ≡ spec.manner_of (option_map (λ s. s.now) context.entry) }
 {
     match context {
-        Some(context) if context == "hover" || context == "watch" => Manner::Value,
-        Some(_) | None => Manner::Line,
+        Some("repl") => Manner::Line,
+        Some(_) | None => Manner::Value,
     }
 }
 

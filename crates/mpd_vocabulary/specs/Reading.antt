@@ -21,6 +21,7 @@ use Rattle.mpd_vocabulary.specs.declared.topic.Topic.TheVariants as topic
 use Rattle.mpd_vocabulary.specs.declared.word.Word.{Word}
 use Rattle.mpd_vocabulary.specs.declared.word.Word.TheVariants as word
 use Rattle.mpd_vocabulary.specs.declared.word.HelpOn.TheVariants as help_on
+use Rattle.mpd_vocabulary.specs.declared.word.When.{When}
 use Rattle.mpd_vocabulary.specs.declared.word.WordFault.{WordFault}
 use Rattle.mpd_vocabulary.specs.declared.word.WordFault.TheVariants.{Unknown, Usage, NoName, NoSuchIndex, NoIndex}
 use Rattle.mpd_vocabulary.specs.declared.read.Line.{Line}
@@ -110,32 +111,36 @@ watch_in ds (a ∷ []) = Err (Usage topic.Watch)
 watch_in ds (a ∷ b ∷ []) = change_at topic.Watch (number_of b) 1 (named ds a)
 watch_in ds (a ∷ b ∷ c ∷ more) = Err (Usage topic.Watch)
 
--- a line of a rank or of any, with what must hold
-abbrev pub with_condition : ℕ → Option ℕ → Result Condition WordFault → Result Word WordFault
-with_condition n of (Err f) = Err f
-with_condition n of (Ok c) = Ok (word.Break (on.Line n of (Some c)))
+-- of a rank or of any, with what must hold
+abbrev pub with_condition : Option ℕ → Result Condition WordFault → Result When WordFault
+with_condition of (Err f) = Err f
+with_condition of (Ok c) = Ok (record { of = of; condition = Some c })
 
 -- what stands after that: `if` and a condition, or nothing; the first word has this number in its line
-abbrev pub conditioned : List Declared → ℕ → Option ℕ → ℕ → List (List ℕ) → Result Word WordFault
-conditioned ds n of place [] = Ok (word.Break (on.Line n of None))
-conditioned ds n of place (a ∷ rest) = if bytes_eq a (codes "if") then with_condition n of (condition_in ds (place + 1) (pieces_of [] rest)) else Err (Usage topic.Break)
+abbrev pub conditioned : List Declared → Option ℕ → ℕ → List (List ℕ) → Result When WordFault
+conditioned ds of place [] = Ok (record { of = of; condition = None })
+conditioned ds of place (a ∷ rest) = if bytes_eq a (codes "if") then with_condition of (condition_in ds (place + 1) (pieces_of [] rest)) else Err (Usage topic.Break)
 
-abbrev pub ranked_by : List Declared → ℕ → ℕ → Option ℕ → List (List ℕ) → Result Word WordFault
-ranked_by ds n place None rest = Err (Usage topic.Break)
-ranked_by ds n place (Some p) rest = conditioned ds n (Some p) (place + 1) rest
+abbrev pub ranked_by : List Declared → ℕ → Option ℕ → List (List ℕ) → Result When WordFault
+ranked_by ds place None rest = Err (Usage topic.Break)
+ranked_by ds place (Some p) rest = conditioned ds (Some p) (place + 1) rest
 
-abbrev pub ranked : List Declared → ℕ → ℕ → List (List ℕ) → Result Word WordFault
-ranked ds n place [] = Err (Usage topic.Break)
-ranked ds n place (a ∷ rest) = ranked_by ds n place (number_of a) rest
+abbrev pub ranked : List Declared → ℕ → List (List ℕ) → Result When WordFault
+ranked ds place [] = Err (Usage topic.Break)
+ranked ds place (a ∷ rest) = ranked_by ds place (number_of a) rest
 
 -- what stands after a line: a rank, or none, and what must hold
-abbrev pub line_with : List Declared → ℕ → ℕ → List (List ℕ) → Result Word WordFault
-line_with ds n place [] = conditioned ds n None place []
-line_with ds n place (a ∷ rest) = if bytes_eq a (codes "rank") then ranked ds n (place + 1) rest else conditioned ds n None place (a ∷ rest)
+abbrev pub when_in : List Declared → ℕ → List (List ℕ) → Result When WordFault
+when_in ds place [] = conditioned ds None place []
+when_in ds place (a ∷ rest) = if bytes_eq a (codes "rank") then ranked ds (place + 1) rest else conditioned ds None place (a ∷ rest)
+
+abbrev pub on_line : ℕ → Result When WordFault → Result Word WordFault
+on_line n (Err f) = Err f
+on_line n (Ok w) = Ok (word.Break (on.Line n w.of w.condition))
 
 abbrev pub line_by_number : List Declared → ℕ → Option ℕ → List (List ℕ) → Result Word WordFault
 line_by_number ds place None rest = Err (Usage topic.Break)
-line_by_number ds place (Some n) rest = line_with ds n (place + 1) rest
+line_by_number ds place (Some n) rest = on_line n (when_in ds (place + 1) rest)
 
 abbrev pub line_in : List Declared → ℕ → List (List ℕ) → Result Word WordFault
 line_in ds place [] = Err (Usage topic.Break)
@@ -168,6 +173,18 @@ break_in ds (kind ∷ rest) =
     else (if bytes_eq kind (codes "change") then change_in ds rest else line_in ds 1 (kind ∷ rest))))
 
 -- ---- names, calls and words
+
+abbrev pub name_of : Result Named NameFault → Option Named
+name_of (Ok n) = Some n
+name_of (Err f) = None
+
+abbrev pub named_at : List Declared → Option (List ℕ) → Option Named
+named_at ds None = None
+named_at ds (Some a) = name_of (named ds a)
+
+-- a name alone
+abbrev pub named_in : List Declared → List (List ℕ) → Option Named
+named_in ds rest = named_at ds (only_word rest)
 
 abbrev pub print_of : Result Named NameFault → Option ℕ → Result Word WordFault
 print_of (Ok n) rank = Ok (word.Print n rank)

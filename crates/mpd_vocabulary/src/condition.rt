@@ -189,8 +189,9 @@ fn condition_of(
     }
 }
 
-/// The condition that some words tell, the first of which has this number in its line.
-pub(crate) fn condition_in(code: &Code, place: usize, rest: &[u8]) -> Result<Condition, WordFault>
+/// The condition that some words tell, as `x == 3`. A fault names a word by its number, of which the
+/// first has this one.
+pub fn condition_in(code: &Code, place: usize, rest: &[u8]) -> Result<Condition, WordFault>
     ensures { result ≡ spec.condition_in code.now.program.decls place (spec.pieces_of [] (words rest.now)) }
 {
     let Some((name, left, behind)) = next_piece(b"", rest) else {

@@ -2,15 +2,16 @@
 //! (docs/CONSOLE.md).
 #![tactic(auto)]
 
-mod condition;
+pub mod condition;
 pub mod faults;
 pub mod read;
 pub mod topic;
 pub mod value;
 pub mod word;
 
+pub use condition::condition_in;
 pub use faults::{push_fault, push_help, push_no_name, push_quoted, word_at};
-pub use read::{Line, line_of};
+pub use read::{Line, line_of, named_in, when_in};
 pub use topic::{FIRST, NAMES, TOPICS, Topic};
 pub use value::behind_word;
-pub use word::{HelpOn, Word, WordFault};
+pub use word::{HelpOn, When, Word, WordFault};

@@ -7,7 +7,7 @@ ghost use Rattle.mpd_vocabulary.specs.Reading as spec;
 use crate::condition::condition_in;
 use crate::topic::{Topic, topic_of};
 use crate::value::asks_value;
-use crate::word::{HelpOn, Word, WordFault};
+use crate::word::{HelpOn, When, Word, WordFault};
 use mpd_code::Code;
 use mpd_model::{
     Breakpoint, CallId, DeclKind, STEPS_MAX, TraceWord, call_of, has_word, next_word, number_of,
@@ -181,62 +181,69 @@ fn info_in(rest: &[u8]) -> Option<Word>
     None
 }
 
-/// The breakpoint of a line, with what must hold, where anything is left; its first word has this number in its line.
-fn conditioned(
-    code: &Code,
-    line: usize,
-    of: Option<usize>,
-    place: usize,
-    rest: &[u8],
-) -> Result<Word, WordFault>
+/// When a breakpoint of these ranks stops, with what must hold, where anything is left; its first word has this number in its line.
+fn conditioned(code: &Code, of: Option<usize>, place: usize, rest: &[u8]) -> Result<When, WordFault>
     requires { place < 10 }
-    ensures { result ≡ spec.conditioned code.now.program.decls line of place (words rest.now) }
+    ensures { result ≡ spec.conditioned code.now.program.decls of place (words rest.now) }
 {
     let Some((word, behind)) = next_word(rest) else {
-        return Ok(Word::Break(Breakpoint::Line {
-            line,
+        return Ok(When {
             of,
-            when: None,
-        }));
+            condition: None,
+        });
     };
     if word == b"if".as_slice() {
         return match condition_in(code, place + 1, behind) {
             Err(fault) => Err(fault),
-            Ok(condition) => Ok(Word::Break(Breakpoint::Line {
-                line,
+            Ok(condition) => Ok(When {
                 of,
-                when: Some(condition),
-            })),
+                condition: Some(condition),
+            }),
         };
     }
     Err(WordFault::Usage(Topic::Break))
 }
 
-/// The breakpoint of a line and of a rank, which is the first word left, with what must hold.
-fn ranked(code: &Code, line: usize, place: usize, rest: &[u8]) -> Result<Word, WordFault>
+/// The same of a rank, which is the first word left.
+fn ranked(code: &Code, place: usize, rest: &[u8]) -> Result<When, WordFault>
     requires { place < 8 }
-    ensures { result ≡ spec.ranked code.now.program.decls line place (words rest.now) }
+    ensures { result ≡ spec.ranked code.now.program.decls place (words rest.now) }
 {
     let Some((rank, behind)) = next_word(rest) else {
         return Err(WordFault::Usage(Topic::Break));
     };
     match number_of(rank) {
         None => Err(WordFault::Usage(Topic::Break)),
-        Some(rank) => conditioned(code, line, Some(rank), place + 1, behind),
+        Some(rank) => conditioned(code, Some(rank), place + 1, behind),
     }
 }
 
-/// The breakpoint of a line, with the rank that is meant and what must hold, where they are left.
-fn line_with(code: &Code, line: usize, place: usize, rest: &[u8]) -> Result<Word, WordFault>
+/// When a breakpoint of a line stops, by what stands after the line: `rank 1`, `if x == 3`, both or
+/// nothing. A fault names a word by its number, of which the first has this one, from 0 to 6.
+pub fn when_in(code: &Code, place: usize, rest: &[u8]) -> Result<When, WordFault>
     requires { place < 7 }
-    ensures { result ≡ spec.line_with code.now.program.decls line place (words rest.now) }
+    ensures { result ≡ spec.when_in code.now.program.decls place (words rest.now) }
 {
     if let Some((word, behind)) = next_word(rest) {
         if word == b"rank".as_slice() {
-            return ranked(code, line, place + 1, behind);
+            return ranked(code, place + 1, behind);
         }
     }
-    conditioned(code, line, None, place, rest)
+    conditioned(code, None, place, rest)
+}
+
+/// The breakpoint of a line, if it is known when it stops.
+fn on_line(line: usize, when: Result<When, WordFault>) -> Result<Word, WordFault>
+    ensures { result ≡ spec.on_line line when }
+{
+    match when {
+        Err(fault) => Err(fault),
+        Ok(when) => Ok(Word::Break(Breakpoint::Line {
+            line,
+            of: when.of,
+            when: when.condition,
+        })),
+    }
 }
 
 /// The breakpoint of a line; its number is the first word left, and has this number in its line.
@@ -249,7 +256,7 @@ fn line_in(code: &Code, place: usize, rest: &[u8]) -> Result<Word, WordFault>
     };
     match number_of(line) {
         None => Err(WordFault::Usage(Topic::Break)),
-        Some(line) => line_with(code, line, place + 1, behind),
+        Some(line) => on_line(line, when_in(code, place + 1, behind)),
     }
 }
 
@@ -316,6 +323,16 @@ fn print_of(cells: Result<Named, NameFault>, rank: Option<usize>) -> Result<Word
         Ok(named) => Ok(Word::Print(named, rank)),
         Err(NameFault::Unknown) => Err(WordFault::NoName(1)),
         Err(NameFault::NoSuchCell) => Err(WordFault::NoSuchIndex),
+    }
+}
+
+/// What a text names, if it is the name of a variable or a request alone, as `a` or `a[2]`.
+pub fn named_in(code: &Code, text: &[u8]) -> Option<Named>
+    ensures { result ≡ spec.named_in code.now.program.decls (words text.now) }
+{
+    match find_named(code, only_word(text)?) {
+        Ok(named) => Some(named),
+        Err(_) => None,
     }
 }
 

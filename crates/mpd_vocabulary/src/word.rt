@@ -1,7 +1,7 @@
 //! What a line of the console asks for.
 
 use crate::topic::Topic;
-use mpd_model::{Breakpoint, CallId, Step};
+use mpd_model::{Breakpoint, CallId, Condition, Step};
 use mpd_names::Named;
 
 /// A word with what follows it. Numbers are as they were given, whatever the script has; where one may be left out and is, its usual
@@ -78,6 +78,15 @@ pub enum Word {
     Help(HelpOn),
     /// End.
     Quit,
+}
+
+/// When a breakpoint of a line stops, as it is told after the line: `rank 1 if x == 3`.
+#[derive(Clone, Copy)]
+pub struct When {
+    /// The rank before whose steps it stops, from 0; of any if there is none.
+    pub of: Option<usize>,
+    /// What must hold, if anything must.
+    pub condition: Option<Condition>,
 }
 
 /// What help is asked for.

@@ -1,5 +1,5 @@
-use Rattle.mpd_adapter.proofs.LawLemmas.{looks_only}
+use Rattle.mpd_adapter.proofs.LawLemmas.{quiet}
 use Rattle.mpd_adapter.proofs.laws.looks_change_nothing.Goals as goal
 
-pub returns-clause-same : goal.returns-clause-same
-returns-clause-same c d m l said e h = looks_only d m l said e h
+pub returns : goal.returns
+returns c d body m frames e is none says = quiet d body m frames e is none says
