@@ -55,7 +55,7 @@ def screen_with(rows=0, left=0):
         panes = max(view.pane_rows(self.size.rows, len(self.ranks)) + rows, 0)
         count = max(self.size.rows - panes - 1 + left, 0)
         lines = view.raw_lines(told)
-        answer = b''.join(view.answer_line(line, self.size.columns) for line in lines[max(len(lines) - count, 0):])
+        answer = b''.join(view.answer_line(line, self.size.columns) for line in view.last_lines(lines, count, self.size.columns))
         return CLEAR + self.panes(panes) + self.state() + answer
     return screen
 
@@ -82,6 +82,12 @@ def state_with(change):
         told = change(self.console.debugger.depth, self.console.where()).encode()
         return view.cut(told + b'-' * self.size.columns, self.size.columns) + b'\n'
     return state
+
+
+def one_less_above(lines, rows, _columns):
+    """The last lines, where the first row tells of one line less than stand above."""
+    above = len(lines) - rows
+    return lines if above <= 0 else [b'.. %d lines above\n' % above, *lines[above + 1:]]
 
 
 def breakages():
@@ -118,6 +124,8 @@ def breakages():
                            'a tab as a question mark': lambda data: bytes(byte if 32 <= byte <= 126 else 63 for byte in data)}),
         *of_rows('cut', {'a column more': lambda line, columns: view.shown(line[:columns + 1]), 'never': lambda line, columns: view.shown(line)}),
         *of_rows('left_columns', {'a half': lambda columns: columns // 2}),
+        *of_rows('last_lines', {'nothing tells of those above': lambda lines, rows, columns: lines[max(len(lines) - rows, 0):],
+                                'one line less above': one_less_above}),
         *of_rows('pane_rows', {'a half': lambda rows, ranks: rows // 2, 'whatever the ranks': lambda rows, ranks: min(max(rows - 6, 0), max(rows - 2, 0) // 2),
                                'a row for each rank': lambda rows, ranks: max(max(rows - 2, 0) // 2, ranks)}),
         *of_rows('CLEAR', {'the screen stays': b'\x1b[H'}),

@@ -47,6 +47,14 @@ def raw_lines(text):
     return [line + b'\n' for line in lines] + [last] * bool(last)
 
 
+def last_lines(lines, rows, columns):
+    """The last of some lines, in so many rows; of those above the first row tells how many they are."""
+    if len(lines) <= rows:
+        return lines
+    above = len(lines) - rows + 1
+    return [cut(b'.. %d lines above' % above, columns) + b'\n', *lines[above:]]
+
+
 def answer_line(line, columns):
     """A line of an answer, as a screen has it."""
     if not line.endswith(b'\n'):
@@ -89,8 +97,7 @@ class View:
     def screen(self, told):
         rows = pane_rows(self.size.rows, len(self.ranks))
         left = max(self.size.rows - rows - 1, 0)
-        lines = raw_lines(told)
-        answer = b''.join(answer_line(line, self.size.columns) for line in lines[max(len(lines) - left, 0):])
+        answer = b''.join(answer_line(line, self.size.columns) for line in last_lines(raw_lines(told), left, self.size.columns))
         return CLEAR + self.panes(rows) + self.state() + answer
 
     def can_go_on(self, rank):

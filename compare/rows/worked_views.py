@@ -70,7 +70,7 @@ ALONE = """\
 -- depth 0; ended: do|
 """
 ROWS = (
-    Row('a match, an end, a list, a word that is none, and a way back', TWO, Size(12, 60), (
+    Row('a match, an end, a list, a word that is none, a way back, and on along it', TWO, Size(12, 60), (
         Turn(None, """\
             2  ranks 2;       | rank 0 is at line 4|
             3  var x;         | rank 1 is at line 4|
@@ -80,8 +80,9 @@ ROWS = (
 -- depth 0; next: local 0: line 4 --------------------------|
 (0) |"""),
         Turn(b'run', ENDED + '7 steps, depth 7|\nended: done|\n(7) |'),
+        # ten lines and the prompt, of which six rows have the last five
         Turn(b'list', ENDED + """\
-    6  } else {|
+.. 6 lines above|
     7    recv x from any tag any;|
     8  }|
     9  # the end|
@@ -100,6 +101,18 @@ depth 3|
 4 ahead: local 1: line 7|
     7    recv x from any tag any;|
 (3) |"""),
+        Turn(b'until rank 0', """\
+            5   send 5 to 1 t | rank 0 has ended|
+            6  } else {       | rank 1 can go on from line 7|
+      1 >   7    recv x from  | |
+            8  }              | |
+            9  # the end      | |
+-- depth 6; 1 ahead: wake 1: line 7 ------------------------|
+3 steps, depth 6|
+stopped: rank 0 has gone on|
+1 ahead: wake 1: line 7|
+    7    recv x from any tag any;|
+(6) |"""),
         Turn(b'quit', ''))),
     Row('more ranks than rows, and lines that wrap', FIVE, Size(10, 30), (
         Turn(None, AT_TWO + '-- depth 0; next: local 0: lin|\n(0) |'),
@@ -110,13 +123,14 @@ next: local 0: line 2|
     2  if rank < 3 { x = 1; }|
 (1) |"""),
         Turn(b'run', TRAPPED + """\
-  rank 3, line 3: trap assert,|
+.. 5 lines above|
         with x = 0|
   rank 4, line 3: trap assert,|
         with x = 0|
 (13) |"""),
+        # 48 lines of help, and the prompt
         Turn(b'help', TRAPPED + """\
-help choice tells what a|
+.. 45 lines above|
         choice is|
 an empty line does the last|
         word once more|

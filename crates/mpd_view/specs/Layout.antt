@@ -1,13 +1,6 @@
 -- How many rows and columns the parts of a screen have (docs/CONSOLE.md, "A view").
 use Rattle.std.specs.Prelude.{ℕ, ◌-◌, ◌/◌, min, max}
 
--- how many columns the left pane has, of so many
-abbrev pub left_columns : ℕ → ℕ
-left_columns columns = columns / 2 - 1
-
-abbrev pub right_columns : ℕ → ℕ
-right_columns columns = columns - left_columns columns - 3
-
 -- how many rows the panes have, of so many, with so many ranks
 abbrev pub pane_rows : ℕ → ℕ → ℕ
 pane_rows rows ranks = min (rows - 6) (max ranks ((rows - 2) / 2))

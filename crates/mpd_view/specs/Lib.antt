@@ -1,6 +1,3 @@
-pub mod Rows
 pub mod Layout
-pub mod Places
-pub mod Panes
-pub mod Screens
+pub mod Sights
 pub mod Says

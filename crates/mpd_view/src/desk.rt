@@ -1,18 +1,14 @@
 //! What answers the lines of a view: a desk over the console, which draws the screen after each line.
 
-ghost use Rattle.std.specs.Prelude.{[], ◌≡◌, ◌+◌, ◌≤◌, ◌<◌, ◌++◌, ℕ, List, IfOk, OnOk, OnErr, length, vec_len, vec_capacity};
-ghost use Rattle.mpd_console.specs.Says.{ConsoleSays};
-ghost use Rattle.mpd_view.specs.Says.{AddsSuch, Drawn, IsDrawn, IsText};
+ghost use Rattle.std.specs.Prelude.{[], ◌≡◌, ◌+◌, ◌≤◌, ◌<◌, ℕ, List, IfOk, OnErr, length, vec_len, vec_capacity};
+ghost use Rattle.mpd_console.specs.Says.{Adds, ConsoleSays};
+ghost use Rattle.mpd_view.specs.Sights.{IsSeen};
 
-use crate::screen::{Drawing, Size, push_screen};
+use crate::drawn::{Size, push_screen};
+use crate::sight::{Sight, sight_of};
 use mpd_console::ConsoleDesk;
-use mpd_core::Core;
-use mpd_explain::{position_of, push_position, push_ranks};
 use mpd_lines::{LINE_ROOM, LineDesk, ROOM, push_all};
 use mpd_model::LINE_MAX;
-use mpd_policy::decide;
-use mpd_session::Session;
-use mpd_trail::Debugger;
 use std::alloc::{AllocError, Global};
 use std::marker::Model;
 
@@ -21,70 +17,6 @@ const MEMORY: &[u8] = b"refused: memory\n";
 
 /// What stands in the place of a screen whose text is refused memory.
 const UNDRAWN: &[u8] = b"memory for the screen was refused\n";
-
-/// What is told of ranks, a line for each.
-fn ranks_words(alloc: Global, core: &Core<'_>) -> Result<String, AllocError> {
-    let mut out = String::new(alloc);
-    push_ranks(core, &mut out)?;
-    Ok(out)
-}
-
-/// What tells where a debugger stands, given the text of its script.
-fn standing_words(
-    alloc: Global,
-    debugger: &Debugger<'_>,
-    script: &[u8],
-) -> Result<String, AllocError> {
-    let core = debugger.core();
-    let decided = decide(alloc, core)?;
-    let position = position_of(alloc, debugger, decided)?;
-    let mut out = String::new(alloc);
-    push_position(&mut out, script, core.code(), &position)?;
-    Ok(out)
-}
-
-/// The screen of a session of this size, after an answer, given the text of its script; nothing after no answer.
-#[tactic(auto, using(crate::proofs::DeskLemmas::drawing))]
-fn drawn_text(
-    alloc: Global,
-    session: &Session<'_>,
-    size: Size,
-    script: &[u8],
-    told: &[u8],
-) -> Result<Vec<u8>, AllocError>
-    ensures { IfOk result (λ t. IsDrawn size script.now session.now told.now t.items) }
-{
-    let mut out = Vec::new(alloc);
-    let Some((_, _)) = told.split_first() else {
-        return Ok(out);
-    };
-    let debugger = session.debugger();
-    debugger.state_is_reached();
-    let ranks = ranks_words(alloc, debugger.core())?;
-    let standing = standing_words(alloc, debugger, script)?;
-    let drawing = Drawing {
-        size,
-        script,
-        told,
-        ranks: ranks.as_bytes(),
-        standing: standing.as_bytes(),
-    };
-    push_screen(debugger, &mut out, drawing)?;
-    Ok(out)
-}
-
-/// Adds a screen, or the line that stands in its place where that is refused memory.
-#[tactic(auto, using(crate::proofs::DeskLemmas::adding))]
-fn add(text: &[u8], out: &mut Vec<u8>)
-    requires room { vec_len out.old + ROOM ≤ vec_capacity out.old }
-    ensures added { AddsSuch (IsText text.now) out.old.items out.new.items }
-    ensures capacity { vec_capacity out.old ≤ vec_capacity out.new }
-{
-    match out.extend_from_slice(text) {
-        Ok(()) => {}
-        Err(_) => push_all(out, UNDRAWN),
-    }
-}
 
 /// A view of a script (docs/CONSOLE.md, "A view"): a console, the text of its script, and the size of the screen.
 #[derive(Drop)]
@@ -132,24 +64,42 @@ impl<'c, 't> ViewDesk<'c, 't> {
         self.console.take_named(alloc)
     }
 
-    /// The screen after what the console has said; nothing if it has said nothing. `Err` means that memory was refused.
-    pub fn screen(&self, alloc: Global, told: &[u8]) -> Result<Vec<u8>, AllocError>
-        ensures { IfOk result (λ t. IsDrawn self.now.size self.now.script self.now.console.session told.now t.items) }
+    /// What it shows of its session. `Err` means that memory was refused.
+    #[tactic(auto, using(crate::proofs::DeskLemmas::seeing))]
+    pub fn sight(&self, alloc: Global) -> Result<Sight, AllocError>
+        ensures { IfOk result (IsSeen self.now.console.session) }
     {
-        drawn_text(alloc, self.console.session(), self.size, self.script, told)
+        let debugger = self.console.session().debugger();
+        debugger.state_is_reached();
+        sight_of(alloc, debugger)
+    }
+
+    /// The screen after what the console has said; nothing if it has said nothing. `Err` means that
+    /// memory was refused.
+    pub fn screen(&self, alloc: Global, told: &[u8]) -> Result<Vec<u8>, AllocError> {
+        let mut out = Vec::new(alloc);
+        if told.is_empty() {
+            return Ok(out);
+        }
+        let sight = self.sight(alloc)?;
+        let code = self.console.session().code();
+        push_screen(&mut out, &sight, code, self.script, told, self.size)?;
+        Ok(out)
     }
 
     /// Adds that screen, or the line that stands in its place where its text is refused memory.
-    #[tactic(auto, using(crate::proofs::DeskLemmas::adding))]
     fn draw(&self, alloc: Global, told: &[u8], out: &mut Vec<u8>)
         requires room { vec_len out.old + ROOM ≤ vec_capacity out.old }
-        ensures drawn { AddsSuch (Drawn self.now.size self.now.script self.now.console.session told.now) out.old.items out.new.items }
+        ensures kept { Adds out.old.items out.new.items }
         ensures capacity { vec_capacity out.old ≤ vec_capacity out.new }
     {
         let Ok(text) = self.screen(alloc, told) else {
             return push_all(out, UNDRAWN);
         };
-        add(&text, out)
+        match out.extend_from_slice(&text) {
+            Ok(()) => {}
+            Err(_) => push_all(out, UNDRAWN),
+        }
     }
 
     /// Types a line, and gives the console's answer. An `Err` is want of memory, and then nothing has changed.

@@ -7,16 +7,12 @@ ghost use Rattle.mpd_view.specs.Layout as spec;
 pub(crate) const BETWEEN: &[u8] = b" | ";
 
 /// How many columns the left pane has, of so many.
-pub(crate) fn left_columns(columns: usize) -> usize
-    ensures { result ≡ spec.left_columns columns }
-{
+pub(crate) fn left_columns(columns: usize) -> usize {
     (columns / 2).saturating_sub(1)
 }
 
 /// How many columns the right pane has, of so many.
-pub(crate) fn right_columns(columns: usize) -> usize
-    ensures { result ≡ spec.right_columns columns }
-{
+pub(crate) fn right_columns(columns: usize) -> usize {
     columns
         .saturating_sub(left_columns(columns))
         .saturating_sub(BETWEEN.len())
