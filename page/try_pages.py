@@ -26,6 +26,7 @@ from pathlib import Path
 TOP = os.path.dirname(os.path.dirname(os.path.abspath(__file__)))
 sys.path.insert(0, f'{TOP}/compare')
 
+from model import page_model
 from runs.pages import OPENING, Shown
 
 CLOSING = b'</script>'
@@ -59,7 +60,7 @@ TRIAL = r'''
   // Of lanes that are scrolled a part alone is drawn, which depends on where they stood before.
   const lanesText = () => el('lanes').scrollWidth > el('lanes').clientWidth + 2 ? '' : el('lanes').textContent;
   const text = () => ['source', 'tree', 'choice', 'told', 'table', 'step', 'verdict'].map(part => el(part).hidden ? '' : el(part).textContent).join('|') + lanesText();
-  const callsHeld = () => S.calls.map(list => list.map(call => [call.line, call.text, call.partner || null]));
+  const callsHeld = () => S.calls.map(list => list.map(({ partner, ...call }) => [call, partner || null]));
   const held = () => JSON.stringify([S.place, S.values, S.requests, S.printed, callsHeld(), S.why]);
   let count = 0;
   function look(how) {
@@ -77,13 +78,13 @@ TRIAL = r'''
     const pane = el('table').parentElement;
     if (pane.scrollWidth > pane.clientWidth + 1) wrong(`${how}: the table of step ${k} is wider than the window`);
     const stops = [...document.querySelectorAll('#lanes title')].filter(title => /is blocked$/.test(title.textContent)).length;
-    const forever = k === last() && !covered && ends[endOf()].outcome !== 'cut' ? S.place.filter(place => place[1] === 'blocked').length : 0;
+    const forever = k === last() && !covered && ends[endOf()].ends !== 'cut' ? S.place.filter(place => place[1] === 'blocked').length : 0;
     if (stops !== forever) wrong(`${how}: ${stops} signs at step ${k}, not ${forever}`);
     if (!el('aloud').textContent !== (el('choice').hidden && el('told').hidden)) wrong(`${how}: what is said aloud at step ${k}`);
     const tree = el('tree').getBoundingClientRect(), ahead = el('treepane').hidden ? null : run.slice(k).find(i => isChoice(i) || endAt.has(i));
     const mark = ahead !== null && document.querySelector(`#tree [data-node="${ahead}"] path, #tree [data-end="${endOf()}"] .mid`);
     if (mark && (mark.getBoundingClientRect().right < tree.left || mark.getBoundingClientRect().left > tree.right)) wrong(`${how}: the tree doesn't show step ${k}`);
-    if (ends[endOf()].outcome === 'cut' && el('table').textContent.includes('nothing fits')) wrong(`${how}: nothing fits where the run goes on`);
+    if (ends[endOf()].ends === 'cut' && el('table').textContent.includes('nothing fits')) wrong(`${how}: nothing fits where the run goes on`);
   }
   function expect(what, how) { if (!what) wrong(how); look(how); }
   try {
@@ -126,7 +127,7 @@ TRIAL = r'''
         expect(k === d, 'a click on a lane');
       }
       const token = (press('End'), document.querySelector('#table [data-step]')), name = token && token.title.split(' ')[2];
-      if (token) { click(token); expect(facts[k].call === name, 'a click on a call of the table'); }
+      if (token) { click(token); expect(facts[k].id === name, 'a click on a call of the table'); }
       for (const d of [...document.querySelectorAll('#marks [data-step]')].map(mark => +mark.dataset.step)) {
         click(document.querySelector(`#marks [data-step="${d}"]`));
         expect(k === d, 'a mark');
@@ -197,7 +198,7 @@ def wrong_states(data, lines):
     for line in lines:
         _, number, held = line.split(' ', 2)
         view = views[int(number)]
-        calls = [[[*call, view.partners.get(f'{rank}.{place}')] for place, call in enumerate(of_rank)] for rank, of_rank in enumerate(view.calls)]
+        calls = [[[call, page_model.plain(view.partners.get((rank, place)))] for place, call in enumerate(of_rank)] for rank, of_rank in enumerate(view.calls)]
         if json.loads(held) != [view.places, view.values, view.handles, view.printed, calls, view.why]:
             wrong.append(f'state {number} holds something else')
     return wrong

@@ -3,23 +3,24 @@
 It was written from that page, over the debugger and the explanations of the model. compare/runs/pages.py compares pages with it.
 """
 
+import json
 import re
 from typing import NamedTuple
 
 from model import deciding, explaining, marks, order
 from model.console_lines import has_ended, lost_lines, requests, source_lines
-from model.debugger import MOST_STEPS, buffer_text, enabled_steps, find_call, first_world, is_at_barrier, is_done, last_call, next_world, outcome, step_text
+from model.debugger import (MOST_STEPS, buffer_text, call_word, enabled_steps, find_call, first_world, is_at_barrier, is_done, last_call, next_world,
+                            outcome)
 from model.diagnosed import Counting, mode_of
-from model.explaining import Reached, next_line, plain_text
+from model.explaining import Reached, next_line
 from model.policy import Choice, Forced, decision
 from model.walks import Leaf
 from model.wide import wide_decision
 from model.worlds import CallId
 
-FORMAT = 'mpdbg page 1'
+FORMAT = 'mpdbg page 2'
 DECISIONS, WIDE, WORDS = 'decisions', 'wide', 'words'
-COMPLETE, BARRIER = 'complete', 'barrier'
-CUT = 'cut'
+CUT, DEADLOCK = 'cut', 'deadlock'
 BAD = 'deadlock', 'trap'
 # The limits of the searches for the step that decides: steps behind a run, states that each keeps, and states that all of a page come to.
 MOST_FUEL, MOST_KEPT, MOST_STATES = 100000, 1000000, 100000
@@ -43,21 +44,32 @@ def blank(script):
     return View(((0,),) * count, (('0',) * script.cells,) * count, ((None,) * script.handles,) * count, ((),) * count, ((),) * count, (None,) * count)
 
 
+def id_of(call_id):
+    """A call as its rank and its number there."""
+    return list(call_id)
+
+
+def step_value(step):
+    """A step as its word, and the ranks or calls that it is about."""
+    return [step.kind, *(id_of(part) if isinstance(part, CallId) else part for part in step[1:] if part is not None)]
+
+
 def place_of(at, number):
-    """The line where a rank stands, and a word where it can't run."""
+    """The line where a rank stands, and what it is doing where it can't run: of one that is trapped, why."""
     rank = at.world.ranks[number]
     if rank.mode == 'blocked':
         return at.lines[last_call(at.world, number)], 'blocked'
     if rank.mode == 'trapped':
-        return next_line(rank), f'trapped {rank.trap}'
+        return next_line(rank), 'trapped', rank.trap
     return (0, 'ended') if has_ended(rank) else (next_line(rank),)
 
 
 def entry(world, call_id):
     """A send or a receive that is waited for, with what it could be matched with."""
     if is_done(world, call_id):
-        return str(call_id), COMPLETE
-    return (str(call_id), *(str(other) if held is None else f'{other} {held}' for other, held in order.why(world, call_id)))
+        return {'call': id_of(call_id), 'complete': True}
+    fits = [[id_of(other), *([] if held is None else [id_of(held)])] for other, held in order.why(world, call_id)]
+    return {'call': id_of(call_id), **({'fits': fits} if fits else {})}
 
 
 def why_of(world, number):
@@ -66,16 +78,32 @@ def why_of(world, number):
     if rank.mode != 'blocked':
         return None
     if is_at_barrier(rank):
-        return ((BARRIER, *(other for other, one in enumerate(world.ranks) if not is_at_barrier(one))),)
+        return {'absent': [other for other, one in enumerate(world.ranks) if not is_at_barrier(one)]}
     own = last_call(world, number)
     calls = [own] if find_call(world, own).kind in ('send', 'recv') else requests(world, own)
-    return tuple(entry(world, call_id) for call_id in calls)
+    return [entry(world, call_id) for call_id in calls]
+
+
+def fields_of(mode, call):
+    """What a call is, by its fields; what is None may be anything, or isn't there."""
+    if call.kind == 'send':
+        return {'kind': call_word(call), 'to': call.other, 'tag': call.tag, 'value': str(call.value), 'buffered': bool(buffer_text(mode, call)) or None}
+    if call.kind == 'recv':
+        return {'kind': call_word(call), 'from': call.other, 'tag': call.tag}
+    if call.kind == 'wait':
+        return {'kind': 'wait', 'for': call.target}
+    if call.kind == 'waitany':
+        return {'kind': 'waitany', 'first': call.first, 'count': call.count, 'none': None if call.active else True}
+    return {'kind': 'barrier'}
+
+
+def without_none(fields):
+    return {key: value for key, value in fields.items() if value is not None}
 
 
 def call_of(at, call_id):
-    """The line of a call, and its text."""
-    call = find_call(at.world, call_id)
-    return at.lines[call_id], plain_text(call) + (buffer_text(at.world.mode, call) if call.kind == 'send' else '')
+    """A call: its line, and what it is."""
+    return without_none({'line': at.lines[call_id], **fields_of(at.world.mode, find_call(at.world, call_id))})
 
 
 def view_of(at):
@@ -91,7 +119,7 @@ def view_of(at):
 def candidates(world, walk):
     """The candidates, where there is a choice; None elsewhere."""
     decided = wide_decision(world) if walk == WIDE else decision(world)
-    return [step_text(step) for step in decided.steps] if isinstance(decided, Choice) else None
+    return [step_value(step) for step in decided.steps] if isinstance(decided, Choice) else None
 
 
 # ---- changes
@@ -108,7 +136,7 @@ def changes(before, view):
     places = [[rank, *view.places[rank]] for rank in ranks if view.places[rank] != before.places[rank]]
     printed = [[rank, value] for rank in ranks for value in view.printed[rank][len(before.printed[rank]):]]
     first = {'d': places, 'v': others(view.values, before.values), 'h': others(view.handles, before.handles), 'o': printed,
-             'c': list(issued[0]) if issued else None}
+             'c': issued[0] if issued else None}
     return first, {'w': [[rank, view.why[rank]] for rank in ranks if view.why[rank] != before.why[rank]]}
 
 
@@ -126,26 +154,26 @@ class Tree:
     def __init__(self, script, mode, walk):
         self.script, self.mode, self.walk = script, mode, walk
         self.at, self.nodes, self.below = [Reached(first_world(script, mode), {})], [], {}
-        self.add(None, '', {}, blank(script), self.at[0])
+        self.add(None, None, {}, blank(script), self.at[0])
 
     def add(self, parent, step, number, before, at):
         first, last = changes(before, view_of(at))
         parted = {} if parent is None or parent == len(self.nodes) - 1 else {'p': parent}
-        self.nodes.append({**parted, 's': step, **number, **first, 'k': None, **last})
+        self.nodes.append({**parted, 's': step and step_value(step), **number, **first, 'k': None, **last})
 
     def follow(self, steps):
         """Adds a run; gives the state in which it ends."""
         node = 0
         for step in steps:
-            at, text = self.at[node], step_text(step)
+            at, value = self.at[node], step_value(step)
             found = self.nodes[node]['k'] = candidates(at.world, self.walk)
-            if (node, text) not in self.below:
-                number = {'n': found.index(text)} if found and text in found else {}
+            if (node, step) not in self.below:
+                number = {'n': found.index(value)} if found and value in found else {}
                 reached = behind(at, step)
-                self.add(node, text, number, view_of(at), reached)
+                self.add(node, step, number, view_of(at), reached)
                 self.at.append(reached)
-                self.below[node, text] = len(self.nodes) - 1
-            node = self.below[node, text]
+                self.below[node, step] = len(self.nodes) - 1
+            node = self.below[node, step]
         return node
 
 
@@ -172,10 +200,17 @@ def last_not_doomed(script, mode, steps, most):
 
 
 def decided_by(script, mode, steps, most):
-    """The depth at which a run was decided that hangs or traps, and what is told of it, by searches that come to so many states at most."""
+    """The depth at which a run was decided that hangs or traps, and what is told of it, by searches that come to so many states at most. The depth is
+    None if it isn't known."""
     line = deciding.line_of(script, mode, steps, last_not_doomed(script, mode, steps, most))
     found = re.match(r'decided at depth (\d+): ', line)
-    return [int(found[1]) if found else None, line]
+    return {'depth': int(found[1]) if found else None, 'said': line}
+
+
+def waits_of(world):
+    """Which rank waits for which other, and whether that one has ended."""
+    return [{'rank': number, 'for': other, 'ended': has_ended(world.ranks[other])}
+            for number, rank in enumerate(world.ranks) if rank.mode == 'blocked' for other in explaining.waited_for(world, number)]
 
 
 def end_of(tree, node, steps, most):
@@ -185,42 +220,40 @@ def end_of(tree, node, steps, most):
     told = [] if ended == CUT else list(explaining.explanation(tree.script, tree.mode, Leaf((), steps, ended)))
     lost = [] if ended == CUT else [line for number in range(tree.script.ranks) for line in lost_lines(at, number)]
     decided = decided_by(tree.script, tree.mode, steps, most) if ended.split()[0] in BAD else None
-    return {'node': node, 'outcome': str(ended), 'told': told, 'lost': lost, 'decided': decided}
+    word = str(ended).split()[0]
+    waits = waits_of(at.world) if word == DEADLOCK else None
+    return {'node': node, 'ends': word, 'outcome': str(ended), 'told': told or None, 'waits': waits, 'lost': lost or None, 'decided': decided}
 
 
 def with_places(text, end):
     """What is told where a run ends, with the places of marks beside lines of the script."""
-    decided = end['decided'] and [end['decided'][0], *marks.all_marked(text, end['decided'][1:])]
-    return {**end, 'told': marks.all_marked(text, end['told']), 'lost': marks.all_marked(text, end['lost']), 'decided': decided}
+    decided = end['decided'] and {**end['decided'], 'said': marks.all_marked(text, [end['decided']['said']])[0]}
+    return {**end, **{key: end[key] and marks.all_marked(text, end[key]) for key in ('told', 'lost')}, 'decided': decided}
 
 
-# ---- the text
+# ---- the data
 
-ESCAPED = re.compile(rb'[\x00-\x1f"\\<]')
-
-
-def line_of(value):
-    """A value on one line; of an object, without what has nothing to tell."""
-    if isinstance(value, str):
-        value = value.encode()
-    if isinstance(value, bytes):
-        return b'"' + ESCAPED.sub(lambda found: b'\\u%04x' % found[0][0], value) + b'"'
+def plain(value):
+    """A value as JSON has it: tuples are lists, and an object has no key of which there is nothing to tell."""
     if isinstance(value, (list, tuple)):
-        return b'[' + b','.join(map(line_of, value)) + b']'
-    if isinstance(value, dict):
-        return b'{' + b','.join(line_of(key) + b':' + line_of(part) for key, part in value.items() if part is not None and part != []) + b'}'
-    return b'null' if value is None else str(value).lower().encode()
+        return [plain(one) for one in value]
+    return {key: plain(one) for key, one in value.items()} if isinstance(value, dict) else value
 
 
-def lines_of(values):
-    """A list, with each element on a line of its own."""
-    return b'[\n' + b',\n'.join(map(line_of, values)) + b'\n]'
+def told_alone(node):
+    """What a node tells, without what it has nothing of."""
+    return {key: plain(value) for key, value in node.items() if value is not None and value != []}
+
+
+def text_of(value):
+    """A value on one line, without blanks; the keys of an object stand in the order of their letters."""
+    return json.dumps(value, ensure_ascii=False, separators=(',', ':'), sort_keys=True)
 
 
 def data_text(data):
-    """The data of a page, as text."""
-    parts = [line_of(key) + b':' + (lines_of(value) if key in ('nodes', 'ends') else line_of(value)) for key, value in data.items()]
-    return b'{' + b',\n'.join(parts) + b'}'
+    """The data of a page, as text: each state and each end has a line of its own, and no `<` stands in it."""
+    lists = [f'"{key}":[' + ','.join('\n' + text_of(one) for one in data[key]) + '\n]' for key in ('nodes', 'ends')]
+    return ('{"run":' + text_of(data['run']) + ',\n' + ',\n'.join(lists) + '}').replace('<', '\\u003c').encode()
 
 
 class Asked(NamedTuple):
@@ -251,6 +284,7 @@ def data_of(asked):
     """The data of a page."""
     tree = Tree(asked.script, asked.mode, asked.walk)
     ends = [with_places(asked.text, end_of(tree, tree.follow(steps), steps, share(asked))) for steps in asked.runs]
-    return {'format': FORMAT, 'name': asked.name, 'mode': mode_of(asked), 'ranks': asked.script.ranks, 'walk': asked.walk, 'hide': asked.hide,
-            'note': asked.note, 'said': list(asked.said), 'script': source_lines(asked.text),
-            'vars': declared(asked.script, 'var'), 'handles': declared(asked.script, 'req'), 'nodes': tree.nodes, 'ends': ends, 'more': asked.more}
+    head = {'format': FORMAT, 'name': asked.name, 'mode': mode_of(asked), 'ranks': asked.script.ranks, 'walk': asked.walk, 'hide': asked.hide,
+            'note': asked.note, 'said': list(asked.said), 'script': list(source_lines(asked.text)),
+            'vars': declared(asked.script, 'var'), 'handles': declared(asked.script, 'req'), 'more': asked.more}
+    return {'run': head, 'nodes': [told_alone(node) for node in tree.nodes], 'ends': [told_alone(end) for end in ends]}

@@ -7,7 +7,7 @@
 The command `page` of PROGRAM makes the pages. Of each script there is one of the runs that it takes by itself, of choices along
 decisions and along the wide walk, of the first leaves, of trace words, and of a witness. A page is read again: its changes are applied to
 one view after another, and each view must show what `show` of the model does where the steps lead, the lines, why ranks wait, and the
-candidates. The text is that of the model, too, to the byte. Without a PROGRAM the pages are the model's. The status is 0 where nothing
+candidates. All of the data is that of the model, too, as JSON has it, and none of its bytes is a `<`. Without a PROGRAM the pages are the model's. The status is 0 where nothing
 differs, and all was met that must be.
 """
 
@@ -28,7 +28,7 @@ from cases.piece_cases import script_of
 from cases.reread_cases import report_asked
 from faults import page_faults
 from model import page_model, picture_model, walks, wide
-from model.debugger import CallId, RENDEZVOUS, enabled_steps, first_world, next_world, outcome, show, step_of, step_text
+from model.debugger import CallId, RENDEZVOUS, enabled_steps, first_world, next_world, outcome, show, step_text
 from model.deciding import NOT_COUNTED
 from model.diagnosed import UNTRIED, Diagnosis, Limits, mode_of, verdict_lines
 from model.explaining import Reached
@@ -38,6 +38,7 @@ from model.page_model import BAD, DECISIONS, WIDE, WORDS
 from model.remembered import steps_remembered
 from model.run_words import run_by
 from model.walks import Run
+from model.worlds import Step
 from places import EXAMPLES, TOP
 from runs import driving
 
@@ -51,7 +52,7 @@ SHOWN = (('stolen_message', RENDEZVOUS), ('race', RENDEZVOUS), ('one_in_seven', 
 MUST_MEET = ('by itself', 'choices', 'runs', 'words', 'witness', 'choices along the wide walk', 'runs along the wide walk', 'several runs', 'done',
              'deadlock', 'trap', 'leftovers', 'cut', 'rendezvous', 'buffered', 'slots', 'a release', 'a waitany', 'a choice', 'another candidate',
              'a request', 'held back', 'complete', 'a lost request', 'a step that decides', 'no step that decides', 'a search that gave up', 'printed',
-             'another parent', 'a `<`', 'more runs', 'no more runs', 'not everything was tried')
+             'another parent', 'a `<`', 'a barrier', 'a buffered send', 'a rank that waits for another', 'more runs', 'no more runs', 'not everything was tried')
 
 
 class Asked(NamedTuple):
@@ -168,8 +169,7 @@ def by_model(of):
 
 # ---- a page is read
 
-KEYS = ['format', 'name', 'mode', 'ranks', 'walk', 'hide', 'note', 'said', 'script', 'vars', 'handles', 'nodes', 'ends', 'more']
-ORDERS = (('p', 's', 'n', 'd', 'v', 'h', 'o', 'c', 'k', 'w'), 'nodes'), (('node', 'outcome', 'told', 'lost', 'decided'), 'ends')
+KEYS = {'format', 'name', 'mode', 'ranks', 'walk', 'hide', 'note', 'said', 'script', 'vars', 'handles', 'more'}
 
 
 class Wrong(Exception):
@@ -182,24 +182,37 @@ def must(holds, what):
 
 
 def data_in(page):
-    """The data of a page, which is the template about it, has no `<`, and is written in one way alone."""
+    """The data of a page, which is the template about it, and has no `<`."""
     head, tail = parts()
     must(page.startswith(head) and page.endswith(tail), 'it is not the template about its data')
     text = page[len(head):len(page) - len(tail)]
     must(b'<' not in text, 'a `<` in the data')
     data = json.loads(text.decode())
-    must(list(data) == KEYS and data['format'] == page_model.FORMAT, 'what stands first')
-    must(page_model.data_text(data) == text, 'the data is written otherwise')
-    must(all(list(one) == [key for key in order if key in one] for order, key_of in ORDERS for one in data[key_of]), 'keys in another order')
+    must(set(data) == {'run', 'nodes', 'ends'} and set(data['run']) == KEYS and data['run']['format'] == page_model.FORMAT, 'what stands first')
     return data
+
+
+SENDS, RECEIVES = ('send', 'isend', 'ssend', 'issend'), ('recv', 'irecv')
+
+
+def words_of(call):
+    """What a call is, as `show` has it."""
+    kind = call['kind']
+    if kind in SENDS:
+        return f'{kind} to {call["to"]} tag {call["tag"]} value {call["value"]}{" buffered" * call.get("buffered", False)}'
+    if kind in RECEIVES:
+        return f'{kind} from {call.get("from", "any")} tag {call.get("tag", "any")}'
+    if kind == 'wait':
+        return f'wait {call.get("for", "none")}'
+    return f'waitany {call["first"]} {call["count"]}{" none" * call.get("none", False)}' if kind == 'waitany' else 'barrier'
 
 
 class Shown:
     """A view that changes are applied to."""
 
     def __init__(self, data):
-        sizes = [sum(1 if size is None else size for _, size in data[names]) for names in ('vars', 'handles')]
-        ranks = range(data['ranks'])
+        sizes = [sum(1 if size is None else size for _, size in data['run'][names]) for names in ('vars', 'handles')]
+        ranks = range(data['run']['ranks'])
         self.places, self.why, self.partners = [[0] for _ in ranks], [None for _ in ranks], {}
         self.values, self.handles = [['0'] * sizes[0] for _ in ranks], [[None] * sizes[1] for _ in ranks]
         self.printed, self.calls = [[] for _ in ranks], [[] for _ in ranks]
@@ -217,56 +230,53 @@ class Shown:
             self.places[rank] = place
         for held_in, key in ((self.values, 'v'), (self.handles, 'h')):
             for rank, cell, value in node.get(key, []):
+                must(key == 'h' or isinstance(value, str), 'a value that is no text')
                 must(held_in[rank][cell] != value, 'a cell that holds the same')
                 held_in[rank][cell] = value
         for rank, value in node.get('o', []):
+            must(isinstance(value, str), 'a value that is no text')
             self.printed[rank].append(value)
         if 'c' in node:
-            self.calls[int(node['s'].split()[1])].append(node['c'])
+            self.calls[node['s'][1]].append(node['c'])
         for rank, why in node.get('w', []):
             must(self.why[rank] != why, 'a reason that is no other')
             self.why[rank] = why
-        kind, *names = node['s'].split(' ')
+        kind, *calls = node.get('s', [None])
         if kind == 'match':
-            self.partners |= {names[0]: names[1], names[1]: names[0]}
+            send, receive = map(tuple, calls)
+            self.partners |= {send: receive, receive: send}
 
     def call_line(self, rank, number):
         """A call as `show` has it."""
-        _, text = self.calls[rank][number]
-        other = self.partners.get(f'{rank}.{number}')
+        call = self.calls[rank][number]
+        other = self.partners.get((rank, number))
         state = ''
-        if 'send' in text or 'recv' in text:
-            state = ' free' if other is None else f' with {other}'
-        if 'recv' in text and other is not None:
-            sender, place = map(int, other.split('.'))
-            state += f' value {self.calls[sender][place][1].split(" ")[6]}'
-        return f'call {rank}.{number} {text}{state}'
+        if call['kind'] in SENDS or call['kind'] in RECEIVES:
+            state = ' free' if other is None else f' with {other[0]}.{other[1]}'
+        if call['kind'] in RECEIVES and other is not None:
+            state += f' value {self.calls[other[0]][other[1]]["value"]}'
+        return f'call {rank}.{number} {words_of(call)}{state}'
 
-    def free(self, rank, word):
-        """The calls of a rank of this word that have no partner."""
-        return [number for number, (_, text) in enumerate(self.calls[rank]) if word in text.split(' ')[0] and f'{rank}.{number}' not in self.partners]
+    def free(self, rank, kinds):
+        """The calls of a rank of these kinds that have no partner."""
+        return [number for number, call in enumerate(self.calls[rank]) if call['kind'] in kinds and (rank, number) not in self.partners]
 
     def lines(self):
         """The lines of `show` that a view has."""
         ranks = range(len(self.places))
         for rank in ranks:
-            line, *word = self.places[rank]
-            doing = word[0] if word else f'at {line}'
+            line, *words = self.places[rank]
+            doing = ' '.join(words) or f'at {line}'
             yield f'rank {rank} {f"blocked {len(self.calls[rank]) - 1}" if doing == "blocked" else doing}'
             for name, held_in in (('vars', self.values), ('handles', self.handles), ('out', self.printed)):
                 yield ' '.join([name, *('-' if value is None else str(value) for value in held_in[rank])])
             yield from (self.call_line(rank, number) for number in range(len(self.calls[rank])))
         for source in ranks:
             for target in ranks:
-                to = [number for number in self.free(source, 'send') if self.calls[source][number][1].split(' ')[2] == str(target)]
+                to = [number for number in self.free(source, SENDS) if self.calls[source][number]['to'] == target]
                 yield from [' '.join([f'pending {source} to {target}:', *map(str, to)])] * bool(to)
         for rank in ranks:
-            yield from [' '.join([f'posted {rank}:', *map(str, posted)]) for posted in [self.free(rank, 'recv')] if posted]
-
-
-def listed(value):
-    """Tuples as lists."""
-    return [listed(one) for one in value] if isinstance(value, (list, tuple)) else value
+            yield from [' '.join([f'posted {rank}:', *map(str, posted)]) for posted in [self.free(rank, RECEIVES)] if posted]
 
 
 def compare_view(view, at):
@@ -275,28 +285,35 @@ def compare_view(view, at):
     for line, other in zip([*view.lines(), '(nothing)'], [*wanted, '(nothing)']):
         must(line == other, f'{line!r} in place of {other!r}')
     ranks = range(len(view.places))
-    must(view.places == [listed(page_model.place_of(at, rank)) for rank in ranks], 'where ranks stand')
-    must(view.why == [listed(page_model.why_of(at.world, rank)) for rank in ranks], 'why ranks wait')
+    must(view.places == [page_model.plain(page_model.place_of(at, rank)) for rank in ranks], 'where ranks stand')
+    must(view.why == [page_model.plain(page_model.why_of(at.world, rank)) for rank in ranks], 'why ranks wait')
     lines = [[at.lines[CallId(rank, number)] for number in range(len(at.world.ranks[rank].calls))] for rank in ranks]
-    must([[line for line, _ in calls] for calls in view.calls] == lines, 'the lines of calls')
+    must([[call['line'] for call in calls] for calls in view.calls] == lines, 'the lines of calls')
+
+
+def step_in(value):
+    """The step that a value tells."""
+    kind, *parts = value
+    return Step(kind, *(CallId(*part) if isinstance(part, list) else part for part in parts))
 
 
 def compare_page(page, of):
     """Raises what is wrong with a page, as it is read; gives the data."""
     data = data_in(page)
-    must((data['mode'], data['ranks'], data['walk']) == (mode_of(of), of.script.ranks, of.walk), 'what stands first')
-    must((data['hide'], data['more']) == (of.hide, of.more), 'whether ends are covered, or there are more runs')
-    must(data['said'] == list(of.said), 'what is said of all runs')
-    must(data['script'] == page_model.source_lines(of.text) and data['name'] == of.name, 'the script')
-    must(data['vars'] == page_model.declared(of.script, 'var') and data['handles'] == page_model.declared(of.script, 'req'), 'the names')
+    head = data['run']
+    must((head['mode'], head['ranks'], head['walk']) == (mode_of(of), of.script.ranks, of.walk), 'what stands first')
+    must((head['hide'], head['more']) == (of.hide, of.more), 'whether ends are covered, or there are more runs')
+    must(head['said'] == list(of.said), 'what is said of all runs')
+    must(head['script'] == page_model.source_lines(of.text) and head['name'] == of.name, 'the script')
+    must(head['vars'] == page_model.declared(of.script, 'var') and head['handles'] == page_model.declared(of.script, 'req'), 'the names')
     views, reached, below, ends = [], [], set(), {end['node'] for end in data['ends']}
     for number, node in enumerate(data['nodes']):
         if number == 0:
-            must('p' not in node and node['s'] == '', 'the start')
+            must('p' not in node and 's' not in node, 'the start')
             view, at = Shown(data), Reached(first_world(of.script, of.mode), {})
         else:
             parent = node.get('p', number - 1)
-            step = step_of(node['s'].encode().split())
+            step = step_in(node['s'])
             must(0 <= parent < number and ('p' in node) == (parent != number - 1), 'a parent')
             must((parent, step) not in below, 'a state twice')
             below.add((parent, step))
@@ -324,10 +341,10 @@ def compare_ends(data, of):
         while node:
             way.append(nodes[node]['s'])
             node = nodes[node].get('p', node - 1)
-        must(way[::-1] == [step_text(step) for step in steps], 'the way to an end')
+        must(way[::-1] == [page_model.step_value(step) for step in steps], 'the way to an end')
         tree = page_model.Tree(of.script, of.mode, of.walk)
         wanted = page_model.with_places(of.text, page_model.end_of(tree, tree.follow(steps), steps, page_model.share(of)))
-        for key in ('outcome', 'told', 'lost', 'decided'):
+        for key in ('ends', 'outcome', 'told', 'waits', 'lost', 'decided'):
             must((end.get(key) or None) == (wanted[key] or None), f'{key} of an end')
 
 
@@ -341,19 +358,22 @@ def met(asked, data):
     for end in data['ends']:
         yield end['outcome'].split()[0]
         yield from ['a lost request'] * ('lost' in end)
-        yield from ['no step that decides' if end['decided'][0] is None else 'a step that decides'] if 'decided' in end else []
-        yield from ['a search that gave up'] * ('decided' in end and NOT_COUNTED in end['decided'][1])
-    yield 'more runs' if data['more'] else 'no more runs'
-    yield from ['not everything was tried'] * any(line.startswith(UNTRIED) for line in data['said'])
+        yield from ['no step that decides' if end['decided']['depth'] is None else 'a step that decides'] if 'decided' in end else []
+        yield from ['a search that gave up'] * ('decided' in end and NOT_COUNTED in end['decided']['said'])
+        yield from ['a rank that waits for another'] * bool(end.get('waits'))
+    yield 'more runs' if data['run']['more'] else 'no more runs'
+    yield from ['not everything was tried'] * any(line.startswith(UNTRIED) for line in data['run']['said'])
     text = json.dumps(data['nodes'])
-    for what, sign in (('a release', '"release"'), ('a waitany', '"wakeany '), ('a request', '"h"'), ('complete', '"complete"'), ('printed', '"o"'),
+    for what, sign in (('a release', '"release"'), ('a waitany', '"wakeany"'), ('a request', '"h"'), ('complete', '"complete"'), ('printed', '"o"'),
                        ('another parent', '"p"')):
         yield from [what] * (sign in text)
-    reasons = [one for node in data['nodes'] for _, why in node.get('w', []) for one in why or ()]
-    yield from ['held back'] * any(' ' in str(other) for one in reasons for other in one[1:])
+    reasons = [why for node in data['nodes'] for _, why in node.get('w', []) if why is not None]
+    yield from ['a barrier'] * any('absent' in why for why in reasons)
+    yield from ['held back'] * any(len(fit) > 1 for why in reasons if isinstance(why, list) for one in why for fit in one.get('fits', []))
+    yield from ['a buffered send'] * any(node.get('c', {}).get('buffered', False) for node in data['nodes'])
     yield from ['a choice'] * any(len(node.get('k', ())) > 1 for node in data['nodes'])
     yield from ['another candidate'] * any(node.get('n', 0) > 0 for node in data['nodes'])
-    yield from ['a `<`'] * any('<' in line for line in data['script'])
+    yield from ['a `<`'] * any('<' in line for line in data['run']['script'])
 
 
 # ---- random scripts and examples
@@ -386,9 +406,7 @@ def compare_one(chosen, asked, seen):
     except (Wrong, ValueError, KeyError, IndexError, TypeError, AttributeError) as why:
         return f'{type(why).__name__}: {why}'
     seen.update(met(asked, data))
-    if page_model.data_text(page_model.data_of(asked.of)) != page_model.data_text(data):
-        return 'the text is another'
-    return None
+    return None if page_model.data_of(asked.of) == data else 'the data is another'
 
 
 def compare_chunk(chosen, numbers):

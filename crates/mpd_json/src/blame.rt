@@ -1,8 +1,8 @@
 //! Where it was decided how a run ends.
 
-use crate::object::Object;
 use crate::place::{ToldScript, step_value};
 use mpd_blame::{Blame, PlacedBlame};
+use mpd_object::Object;
 use serde_json::Value;
 use std::alloc::{AllocError, Global};
 

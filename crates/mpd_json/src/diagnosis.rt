@@ -2,11 +2,11 @@
 
 use crate::blame::blame_value;
 use crate::end::end_value;
-use crate::object::{Object, line, numbers};
 use crate::place::{ToldScript, begun, count_value, counts_value, judged};
 use mpd_blame::PlacedBlame;
 use mpd_diagnose::{Diagnosis, EndKind, Group, Runs};
 use mpd_lines::Verdict;
+use mpd_object::{Object, line, numbers};
 use serde_json::Value;
 use std::alloc::{AllocError, Global};
 

@@ -1,10 +1,10 @@
 //! How a run ended, with what is known of that.
 
-use crate::object::{Object, numbers};
 use crate::place::{ToldScript, at_call, at_line, calls_value};
 use mpd_explain::{Absence, AwaitedRank, Cycle, End, Miss, TrapPlace, Wait, Wish};
 use mpd_model::CallId;
 use mpd_names::{Held, Holding, PlacedCall, Stands};
+use mpd_object::{Object, numbers};
 use serde_json::Value;
 use std::alloc::{AllocError, Global};
 

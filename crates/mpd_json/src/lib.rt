@@ -4,7 +4,6 @@
 mod blame;
 pub mod diagnosis;
 mod end;
-mod object;
 mod place;
 pub mod report;
 

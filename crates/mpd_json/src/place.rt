@@ -1,18 +1,16 @@
 //! Scripts, lines, calls, steps and counts.
 
-use crate::object::{Object, list};
 use mpd_code::Code;
 use mpd_explain::PlacedStep;
 use mpd_explore::Ending;
 use mpd_lines::Verdict;
-use mpd_marks::mark_of;
 use mpd_model::{CallId, IssuedCall, Mode, Outcome, TrappedRank};
-use mpd_names::PlacedCall;
+use mpd_names::{Marks, PlacedCall};
+use mpd_object::{Object, list};
 use mpd_outcomes::Count;
 use mpd_runs::WayCounts;
 use serde_json::Value;
 use std::alloc::{AllocError, Global};
-use std::str::from_utf8;
 
 /// A script of which something was found, in a mode.
 #[derive(Clone, Copy)]
@@ -29,20 +27,22 @@ fn statement_line(script: ToldScript<'_>, statement: usize) -> usize {
 }
 
 /// The place that the mark of a line names, or null.
-fn place_value(alloc: Global, script: ToldScript<'_>, line: usize) -> Result<Value, AllocError> {
-    let Some(mark) = mark_of(script.text, line) else {
-        return Ok(Value::Null);
-    };
-    match from_utf8(mark) {
-        Ok(place) => Value::try_from_str(alloc, place),
-        Err(_) => Ok(Value::Null),
+fn place_value(alloc: Global, place: Option<&str>) -> Result<Value, AllocError> {
+    match place {
+        None => Ok(Value::Null),
+        Some(place) => Value::try_from_str(alloc, place),
     }
 }
 
 /// An object that has a line, and the place that its mark names.
 pub(crate) fn at_line(alloc: Global, script: ToldScript<'_>, line: usize) -> Object {
-    let place = place_value(alloc, script, line);
-    Object::new(alloc).number("line", line).with("place", place)
+    let marks = Marks {
+        script: script.text,
+    };
+    let line = marks.line(line);
+    Object::new(alloc)
+        .number("line", line.number)
+        .with("place", place_value(alloc, line.mark))
 }
 
 /// An object that has a call, its rank and its line.

@@ -2,35 +2,15 @@
 
 use crate::blame::blame_value;
 use crate::end::end_value;
-use crate::object::{Object, line, numbers};
 use crate::place::{ToldScript, begun, count_value, counts_value, ending_value, judged};
 use mpd_check::{Listing, OutcomesListing, Tally, Telling, found_in};
 use mpd_explore::SearchLeaf;
 use mpd_lines::Verdict;
 use mpd_model::Mode;
+use mpd_object::{Object, line, numbers};
 use mpd_outcomes::Count;
-use mpd_runs::WayCounts;
 use serde_json::Value;
 use std::alloc::{AllocError, Global};
-
-/// How many of the runs that a report lists end in each way.
-fn ways_of(tally: Tally) -> WayCounts {
-    let done = tally
-        .runs
-        .saturating_sub(tally.leftovers)
-        .saturating_sub(tally.deadlocks)
-        .saturating_sub(tally.traps)
-        .saturating_sub(tally.cut);
-    WayCounts {
-        done: Count::Exactly(done as u64),
-        leftovers: Count::Exactly(tally.leftovers as u64),
-        deadlock: Count::Exactly(tally.deadlocks as u64),
-        trap: Count::Exactly(tally.traps as u64),
-        cut: Count::Exactly(tally.cut as u64),
-        total: Count::Exactly(tally.runs as u64),
-        more: tally.more,
-    }
-}
 
 /// The steps of the witness at a place as `verify` reads them, or null.
 fn witness_value(alloc: Global, witnesses: &[String], place: usize) -> Result<Value, AllocError> {
@@ -96,7 +76,7 @@ pub fn listing_json(
     verdict: Verdict,
     is_whole: bool,
 ) -> Result<String, AllocError> {
-    let counts = counts_value(alloc, ways_of(listing.tally), "runs");
+    let counts = counts_value(alloc, listing.tally.ways(), "runs");
     let report = if telling.group { "groups" } else { "leaves" };
     let object = judged(begun(alloc, report, script), verdict)
         .with("counts", counts)
@@ -177,7 +157,7 @@ pub fn mode_json(
     tally: Tally,
 ) -> Result<String, AllocError> {
     let object = begun(alloc, "mode", script)
-        .with("counts", counts_value(alloc, ways_of(tally), of))
+        .with("counts", counts_value(alloc, tally.ways(), of))
         .flag("more", tally.more);
     line(alloc, object.done())
 }

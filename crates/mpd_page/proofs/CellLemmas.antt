@@ -1,20 +1,23 @@
--- Changes of texts and cells, applied to what was before, give what is after.
-use Rattle.std.proofs.Common.{◌≡◌, ℕ, ◌+◌, ◌≤◌, min, Bool, true, false, List, [], ◌∷◌, ◌++◌, length, drop, set, slice_get, Some, None, cond, refl, sym, ap, ◌∙◌, arith, append_assoc, bytes_eq}
+-- Changes of places, reasons and cells, applied to what was before, give what is after.
+use Rattle.std.proofs.Common.{◌≡◌, ℕ, ◌+◌, ◌≤◌, min, Bool, true, false, List, [], ◌∷◌, ◌++◌, length, drop, set, slice_get, Some, cond, refl, sym, ap, ◌∙◌, arith, append_assoc}
 use Rattle.std.proofs.lemmas.List.{length-append}
-use Rattle.std.proofs.lemmas.Slice.Eq.{bytes_eq-Decides}
 use Rattle.std.proofs.Math.Seq.{drop-append_seam}
 use Rattle.std.specs.List.{flat_map, range_with_len}
-use Rattle.mpd_page.specs.Applied.{other_than, other_by, other_at, other_cells, set_text, set_cells}
+use Rattle.mpd_page.specs.Applied.{other_by, other_at, other_cells, set_last, set_cells}
 use Rattle.mpd_page.specs.Changes.{values_behind}
 
--- ---- texts
+-- ---- what is told whole
 
-text_by : (b : Bool) (was now : List ℕ) → (b ≡ true → was ≡ now) → set_text was (cond b None (Some now)) ≡ now
-text_by true was now h = h refl
-text_by false was now h = refl
+-- told where it is another
+abbrev pub other_if : {A : Type 0} → (A → A → Bool) → A → A → List A
+other_if same was now = cond (same was now) [] (now ∷ [])
 
-pub text_set : (was now : List ℕ) → set_text was (other_than was now) ≡ now
-text_set was now = text_by (bytes_eq was now) was now (bytes_eq-Decides was now).0
+whole_by : {A : Type 0} (b : Bool) (was now : A) → (b ≡ true → was ≡ now) → set_last was (cond b [] (now ∷ [])) ≡ now
+whole_by true was now h = h refl
+whole_by false was now h = refl
+
+pub whole_set : {A : Type 0} (same : A → A → Bool) → ((x y : A) → same x y ≡ true → x ≡ y) → (was now : A) → set_last was (other_if same was now) ≡ now
+whole_set same is was now = whole_by (same was now) was now (is was now)
 
 -- ---- cells
 

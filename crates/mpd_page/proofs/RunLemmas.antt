@@ -7,10 +7,11 @@ use Rattle.mpd_model.specs.declared.step.Step.{Step}
 use Rattle.mpd_model.specs.script.Program.{Program}
 use Rattle.mpd_model.specs.steps.World.{World}
 use Rattle.mpd_model.specs.steps.Next.{next, fold}
+use Rattle.mpd_page.specs.declared.node.Node.{Node}
 use Rattle.mpd_page.specs.declared.tree.Branch.{Branch}
 use Rattle.mpd_page.specs.declared.tree.TheConstants.{STATES_MAX}
 use Rattle.mpd_page.specs.declared.walk.Walk.{Walk}
-use Rattle.mpd_page.specs.Trees.{branch, child, grown, grown_if, number_there, tree_there, run_end, run_tree, has_some, led, line_there, run_text}
+use Rattle.mpd_page.specs.Trees.{branch, child, grown, grown_if, number_there, tree_there, run_end, run_tree, has_some, led, node_there, run_nodes}
 
 -- ---- a tree only grows
 
@@ -41,17 +42,17 @@ pub tree_more : (tree : List Branch) (at n : ℕ) (now : List Branch) (a : Step)
     → run_tree tree at left ≡ total → run_tree now n rest ≡ total
 tree_more tree at n now a left rest total split number told e = ap (λ t. run_tree t n rest) told ∙ ap (λ k. run_tree (tree_there tree at a) k rest) number ∙ sym (ap (run_tree tree at) split) ∙ e
 
-pub text_more : (s : Program) (walk : Walk) (tree : List Branch) (at n : ℕ) (now : List Branch) (w v : World) (a : Step) (left rest : List Step) (more : Bool) (so_far text total : List ℕ)
-    → left ≡ a ∷ rest → n ≡ number_there tree at a → now ≡ tree_there tree at a → next w a ≡ Some v → more ≡ not (length rest == 0) → text ≡ so_far ++ line_there s walk tree at w v a more
-    → so_far ++ run_text s walk tree at w left ≡ total → text ++ run_text s walk now n v rest ≡ total
-text_more s walk tree at n now w v a left rest more so_far text total split number told leads is line e =
-    let there : List ℕ = run_text s walk (tree_there tree at a) (number_there tree at a) v rest in
-    let same : run_text s walk now n v rest ≡ there = ap (λ t. run_text s walk t n v rest) told ∙ ap (λ k. run_text s walk (tree_there tree at a) k v rest) number in
-    let here : run_text s walk tree at w left ≡ line_there s walk tree at w v a more ++ there =
-    ap (run_text s walk tree at w) split
-    ∙ ap (led (λ u. line_there s walk tree at w u a (has_some rest) ++ run_text s walk (tree_there tree at a) (number_there tree at a) u rest)) leads
-    ∙ ap (λ b. line_there s walk tree at w v a b ++ there) (sym (is ∙ some_left rest)) in
-    ap (λ xs. text ++ xs) same ∙ ap (λ xs. xs ++ there) line ∙ append_assoc so_far (line_there s walk tree at w v a more) there ∙ ap (λ xs. so_far ++ xs) (sym here) ∙ e
+pub nodes_more : (s : Program) (walk : Walk) (tree : List Branch) (at n : ℕ) (now : List Branch) (w v : World) (a : Step) (left rest : List Step) (more : Bool) (so_far nodes total : List Node)
+    → left ≡ a ∷ rest → n ≡ number_there tree at a → now ≡ tree_there tree at a → next w a ≡ Some v → more ≡ not (length rest == 0) → nodes ≡ so_far ++ node_there s walk tree at w v a more
+    → so_far ++ run_nodes s walk tree at w left ≡ total → nodes ++ run_nodes s walk now n v rest ≡ total
+nodes_more s walk tree at n now w v a left rest more so_far nodes total split number told leads is line e =
+    let there : List Node = run_nodes s walk (tree_there tree at a) (number_there tree at a) v rest in
+    let same : run_nodes s walk now n v rest ≡ there = ap (λ t. run_nodes s walk t n v rest) told ∙ ap (λ k. run_nodes s walk (tree_there tree at a) k v rest) number in
+    let here : run_nodes s walk tree at w left ≡ node_there s walk tree at w v a more ++ there =
+    ap (run_nodes s walk tree at w) split
+    ∙ ap (led (λ u. node_there s walk tree at w u a (has_some rest) ++ run_nodes s walk (tree_there tree at a) (number_there tree at a) u rest)) leads
+    ∙ ap (λ b. node_there s walk tree at w v a b ++ there) (sym (is ∙ some_left rest)) in
+    ap (λ xs. nodes ++ xs) same ∙ ap (λ xs. xs ++ there) line ∙ append_assoc so_far (node_there s walk tree at w v a more) there ∙ ap (λ xs. so_far ++ xs) (sym here) ∙ e
 
 pub leads_more : (w v : World) (a : Step) (left rest : List Step) (total : Option World) → left ≡ a ∷ rest → next w a ≡ Some v → fold w left ≡ total → fold v rest ≡ total
 leads_more w v a left rest total split leads e = sym (ap (fold w) split ∙ ap (option_and_then (λ u. fold u rest)) leads) ∙ e
@@ -71,8 +72,8 @@ end_done tree at total left h e = sym (ap (run_end tree at) (none_left left h)) 
 pub tree_done : (tree total : List Branch) (at : ℕ) (left : List Step) → length left ≡ 0 → run_tree tree at left ≡ total → tree ≡ total
 tree_done tree total at left h e = sym (ap (run_tree tree at) (none_left left h)) ∙ e
 
-pub text_done : (s : Program) (walk : Walk) (tree : List Branch) (at : ℕ) (w : World) (left : List Step) (so_far total : List ℕ) → length left ≡ 0 → so_far ++ run_text s walk tree at w left ≡ total → so_far ≡ total
-text_done s walk tree at w left so_far total h e = sym (append-nil so_far) ∙ ap (λ xs. so_far ++ run_text s walk tree at w xs) (sym (none_left left h)) ∙ e
+pub nodes_done : (s : Program) (walk : Walk) (tree : List Branch) (at : ℕ) (w : World) (left : List Step) (so_far total : List Node) → length left ≡ 0 → so_far ++ run_nodes s walk tree at w left ≡ total → so_far ≡ total
+nodes_done s walk tree at w left so_far total h e = sym (append-nil so_far) ∙ ap (λ xs. so_far ++ run_nodes s walk tree at w xs) (sym (none_left left h)) ∙ e
 
 pub leads_done : (u w v : World) (left steps : List Step) → length left ≡ 0 → v ≡ w → fold w left ≡ fold u steps → fold u steps ≡ Some v
 leads_done u w v left steps h same e = sym e ∙ ap (fold w) (none_left left h) ∙ ap Some (sym same)
@@ -89,4 +90,4 @@ too_many tree total at a left rest split new most e =
     let all : run_tree now (number_there tree at a) rest ≡ total = sym (ap (run_tree tree at) split) ∙ e in
     omega (arith, most, more_by_one tree at a, ap length grown_now, ap length all, tree_grows rest now (number_there tree at a))
 
-pub ruleset going_along = (end_more, tree_more, text_more, leads_more, steps_more, end_done, tree_done, text_done, leads_done, steps_done, too_many)
+pub ruleset going_along = (end_more, tree_more, nodes_more, leads_more, steps_more, end_done, tree_done, nodes_done, leads_done, steps_done, too_many)

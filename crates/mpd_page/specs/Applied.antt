@@ -1,9 +1,6 @@
--- By what one text, or one list of cells, differs from another, and what that makes of the first.
-use Rattle.std.specs.Prelude.{ℕ, Bool, if◌then◌else◌, List, [], ◌∷◌, ◌++◌, length, slice_get, slice_set, bytes_eq, Option, Some, None}
+-- By what one list of cells differs from another, and what changes make of what was there before.
+use Rattle.std.specs.Prelude.{ℕ, ◌==◌, Bool, if◌then◌else◌, List, [], ◌∷◌, ◌++◌, length, slice_get, slice_set, Option, Some, None}
 use Rattle.std.specs.List.{flat_map, range_with_len}
-
-abbrev pub other_than : List ℕ → List ℕ → Option (List ℕ)
-other_than was now = if bytes_eq was now then None else Some now
 
 -- cells with another value, by a test whether two are the same
 abbrev pub other_by : {A : Type 0} → (A → A → Bool) → ℕ → Option A → Option A → List (ℕ × A)
@@ -16,9 +13,10 @@ other_at same was now i = other_by same i (slice_get was i) (slice_get now i)
 abbrev pub other_cells : {A : Type 0} → (A → A → Bool) → List A → List A → List (ℕ × A)
 other_cells same was now = flat_map (other_at same was now) (range_with_len 0 (length now))
 
-abbrev pub set_text : List ℕ → Option (List ℕ) → List ℕ
-set_text was None = was
-set_text was (Some now) = now
+-- the last that is told, if any is
+abbrev pub set_last : {A : Type 0} → A → List A → A
+set_last was [] = was
+set_last was (now ∷ more) = set_last now more
 
 abbrev pub set_cells : {A : Type 0} → List A → List (ℕ × A) → List A
 set_cells xs [] = xs
@@ -27,3 +25,7 @@ set_cells xs (c ∷ cs) = set_cells (slice_set xs c.0 c.1) cs
 abbrev pub with_one : {A : Type 0} → List A → Option A → List A
 with_one xs None = xs
 with_one xs (Some x) = xs ++ x ∷ []
+
+-- what entries tell of a rank, each of which has a rank
+abbrev pub of_rank : {E A : Type 0} → (E → ℕ) → (E → A) → ℕ → List E → List A
+of_rank rank what p es = flat_map (λ e. if rank e == p then what e ∷ [] else []) es

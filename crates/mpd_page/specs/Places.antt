@@ -1,38 +1,29 @@
--- Where a rank stands, as a text of the data (docs/PAGES.md, "States").
-use Rattle.std.specs.Prelude.{ℕ, if◌then◌else◌, List, [], ◌++◌, slice_get, Option, Some, None, codes}
-use Rattle.std.specs.Option.{option_map}
-use Rattle.std.specs.Fmt.{decimal}
-use Rattle.mpd_model.specs.declared.call.Trap.{Trap}
-use Rattle.mpd_model.specs.declared.call.Activity.{Activity}
-use Rattle.mpd_model.specs.declared.call.Activity.TheVariants.{Running, Blocked, Trapped}
+-- Where a rank stands (docs/PAGES.md, "States").
+use Rattle.std.specs.Prelude.{ℕ, Option, Some, None}
 use Rattle.mpd_model.specs.script.Program.{Program}
-use Rattle.mpd_model.specs.steps.World.{RankWorld, World, call_at, last_call}
-use Rattle.mpd_model.specs.steps.Outcomes.{has_ended}
-use Rattle.mpd_model.specs.texts.Texts.{trap_name}
-use Rattle.mpd_names.specs.Placed.{rank_line, issue_line}
+use Rattle.mpd_model.specs.steps.World.{World}
+use Rattle.mpd_names.specs.declared.place.Stands.{Stands}
+use Rattle.mpd_names.specs.declared.place.Stands.TheVariants as at
+use Rattle.mpd_names.specs.Stand.{stands_of}
+use Rattle.mpd_page.specs.declared.places.Doing.{Doing}
+use Rattle.mpd_page.specs.declared.places.Doing.TheVariants.{Runs, Blocked, Trapped, Ended}
+use Rattle.mpd_page.specs.declared.places.RankPlace.{RankPlace}
 
--- the line where a rank stands
-abbrev pub stands_at : Program → World → ℕ → ℕ
-stands_at s w p = rank_line s.lines (slice_get w.ranks p)
+abbrev pub on_line : ℕ → Doing → RankPlace
+on_line line doing = record { line = line; doing = doing }
 
--- `8`, or `0,"ended"`
-abbrev pub running_place : Program → World → ℕ → Option RankWorld → List ℕ
-running_place s w p None = []
-running_place s w p (Some r) = if has_ended r then codes "0,\"ended\"" else decimal (stands_at s w p)
+-- before the start a rank is at line 0
+abbrev pub nowhere : RankPlace
+nowhere = on_line 0 Runs
 
--- `9,"blocked"`: the line of the call that it waits in, which is its last
-abbrev pub blocked_place : Program → World → ℕ → List ℕ
-blocked_place s w p = decimal (issue_line s.lines (call_at w.board (last_call w.board p))) ++ codes ",\"blocked\""
+-- the line of the next statement, of the call that it waits in, or of the statement that trapped it; one that has ended is at line 0
+abbrev pub place_of : Option Stands → RankPlace
+place_of None = nowhere
+place_of (Some at.Ended) = on_line 0 Ended
+place_of (Some (at.At line)) = on_line line Runs
+place_of (Some (at.Waits call)) = on_line call.line Blocked
+place_of (Some (at.CanGoOn call)) = on_line call.line Blocked
+place_of (Some (at.Trapped line t)) = on_line line (Trapped t)
 
--- `11,"trapped assert"`
-abbrev pub trapped_place : ℕ → Trap → List ℕ
-trapped_place number t = decimal number ++ codes ",\"trapped " ++ trap_name t ++ codes "\""
-
-abbrev pub place_by : Program → World → ℕ → Option Activity → List ℕ
-place_by s w p None = []
-place_by s w p (Some Running) = running_place s w p (slice_get w.ranks p)
-place_by s w p (Some Blocked) = blocked_place s w p
-place_by s w p (Some (Trapped t)) = trapped_place (stands_at s w p) t
-
-abbrev pub place : Program → World → ℕ → List ℕ
-place s w p = place_by s w p (option_map (λ (r : RankWorld). r.activity) (slice_get w.ranks p))
+abbrev pub place : Program → World → ℕ → RankPlace
+place s w p = place_of (stands_of s w p)

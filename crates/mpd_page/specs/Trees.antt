@@ -1,5 +1,5 @@
 -- The states of several runs: two runs share the states of the steps that they begin with (docs/PAGES.md, "States").
-use Rattle.std.specs.Prelude.{ℕ, ◌+◌, ◌&&◌, ◌==◌, Bool, true, false, nat_le, List, [], ◌∷◌, ◌++◌, length, drop, Option, Some, None, codes}
+use Rattle.std.specs.Prelude.{ℕ, ◌+◌, ◌&&◌, ◌==◌, Bool, true, false, nat_le, List, [], ◌∷◌, ◌++◌, length, drop, Option, Some, None}
 use Rattle.std.specs.Option.{option_map}
 use Rattle.std.specs.List.{list_any, position}
 use Rattle.mpd_model.specs.declared.step.Step.{Step}
@@ -10,6 +10,7 @@ use Rattle.mpd_model.specs.runs.Trail.{step_eq}
 use Rattle.mpd_page.specs.declared.tree.Branch.{Branch}
 use Rattle.mpd_page.specs.declared.tree.TheConstants.{STATES_MAX}
 use Rattle.mpd_page.specs.declared.walk.Walk.{Walk}
+use Rattle.mpd_page.specs.declared.node.Node.{Node}
 use Rattle.mpd_page.specs.Nodes.{node, first_node}
 
 -- ---- the tree
@@ -63,37 +64,36 @@ runs_tree tree (run ∷ runs) = runs_tree (run_tree tree 0 run) runs
 abbrev pub is_few : List Branch → Bool
 is_few tree = nat_le (length tree + 1) STATES_MAX
 
--- ---- its text
+-- ---- the states
 
 abbrev pub has_some : List Step → Bool
 has_some [] = false
 has_some (a ∷ steps) = true
 
-abbrev pub led : (World → List ℕ) → Option World → List ℕ
+abbrev pub led : (World → List Node) → Option World → List Node
 led behind None = []
 led behind (Some w) = behind w
 
--- a new state, on a line of its own
-abbrev pub node_line : Program → Walk → List Branch → ℕ → World → World → Step → Bool → List ℕ
-node_line s walk tree at w v a more = codes ",\n" ++ node s walk (length tree) at w v a more
+abbrev pub new_node : Program → Walk → ℕ → World → World → Step → Bool → List Node
+new_node s walk at w v a more = node s walk at w v a more ∷ []
 
-abbrev pub line_if : List ℕ → Option ℕ → List ℕ
-line_if text None = text
-line_if text (Some i) = []
+abbrev pub node_if : List Node → Option ℕ → List Node
+node_if nodes None = nodes
+node_if nodes (Some i) = []
 
--- that, where it isn't there yet
-abbrev pub line_there : Program → Walk → List Branch → ℕ → World → World → Step → Bool → List ℕ
-line_there s walk tree at w v a more = line_if (node_line s walk tree at w v a more) (child tree at a)
+-- a state, where it isn't there yet
+abbrev pub node_there : Program → Walk → List Branch → ℕ → World → World → Step → Bool → List Node
+node_there s walk tree at w v a more = node_if (new_node s walk at w v a more) (child tree at a)
 
 -- the states of a run that the tree hasn't yet, from a state on, which is the one of a number
-abbrev pub run_text : Program → Walk → List Branch → ℕ → World → List Step → List ℕ
-run_text s walk tree at w [] = []
-run_text s walk tree at w (a ∷ steps) = led (λ v. line_there s walk tree at w v a (has_some steps) ++ run_text s walk (tree_there tree at a) (number_there tree at a) v steps) (next w a)
+abbrev pub run_nodes : Program → Walk → List Branch → ℕ → World → List Step → List Node
+run_nodes s walk tree at w [] = []
+run_nodes s walk tree at w (a ∷ steps) = led (λ v. node_there s walk tree at w v a (has_some steps) ++ run_nodes s walk (tree_there tree at a) (number_there tree at a) v steps) (next w a)
 
-abbrev pub runs_text : Program → Walk → World → List Branch → List (List Step) → List ℕ
-runs_text s walk w tree [] = []
-runs_text s walk w tree (run ∷ runs) = run_text s walk tree 0 w run ++ runs_text s walk w (run_tree tree 0 run) runs
+abbrev pub runs_nodes : Program → Walk → World → List Branch → List (List Step) → List Node
+runs_nodes s walk w tree [] = []
+runs_nodes s walk w tree (run ∷ runs) = run_nodes s walk tree 0 w run ++ runs_nodes s walk w (run_tree tree 0 run) runs
 
 -- the states of some runs from the start
-abbrev pub nodes_text : Program → Walk → World → List (List Step) → List ℕ
-nodes_text s walk w runs = first_node s walk w (list_any has_some runs) ++ runs_text s walk w [] runs
+abbrev pub nodes_of : Program → Walk → World → List (List Step) → List Node
+nodes_of s walk w runs = first_node s walk w (list_any has_some runs) ∷ runs_nodes s walk w [] runs

@@ -1,84 +1,237 @@
 //! By what a state differs from the one before it (docs/PAGES.md, "Changes").
 
-ghost use Rattle.std.specs.Prelude.{◌≡◌, ◌++◌, OnOk, Some, length, slice_get, string_bytes};
-ghost use Rattle.std.specs.List.{flat_map};
+ghost use Rattle.std.specs.Prelude.{◌≡◌, ◌++◌, IfOk, OnOk, Some, length, map, slice_get};
+ghost use Rattle.std.specs.Option.{option_map};
 ghost use Rattle.mpd_model.specs.steps.World.{call_at};
-ghost use Rattle.mpd_model.specs.texts.Texts.{buffer_text};
-ghost use Rattle.mpd_names.specs.Placed.{issue_line as issue_line_of};
 ghost use Rattle.mpd_page.specs.Changes as spec;
 
-use crate::json::{add_text, push_quoted};
-use crate::places::place;
+use crate::places::{RankPlace, nowhere, place};
+use crate::reasons::{Reason, reason_of};
+use crate::same::{same_place, same_reason};
 use mpd_core::Core;
-use mpd_model::{Call, CallId, CallKind, Mode, Step};
+use mpd_model::{CallId, CallKind, Step};
 use mpd_names::issue_line;
-use std::alloc::AllocError;
+use std::alloc::{AllocError, Global};
+use std::marker::Model;
 
-/// Adds what is told of a rank, if it is another than it was.
-pub(crate) fn push_other(
-    out: &mut String,
+// ---- what may differ
+
+/// A rank stands at another place.
+#[derive(Clone, Copy)]
+pub struct PlaceChange {
+    pub rank: usize,
+    pub place: RankPlace,
+}
+
+/// Places of ranks, as contracts see them.
+#[derive(Drop)]
+pub struct PlaceChangeList {
+    pub items: Vec<PlaceChange>,
+}
+
+impl Model for PlaceChangeList {
+    ghost use Rattle.std.specs.Prelude.{List};
+    ghost use Rattle.mpd_page.specs.declared.changes.PlaceChange.{PlaceChange};
+
+    ghost Value = { List PlaceChange };
+
+    ghost view = { λ l. l.items.items };
+}
+
+/// A cell of a rank holds another value.
+#[derive(Clone, Copy)]
+pub struct CellChange {
+    pub rank: usize,
+    pub cell: usize,
+    pub value: i64,
+}
+
+/// Values of cells, as contracts see them.
+#[derive(Drop)]
+pub struct CellChangeList {
+    pub items: Vec<CellChange>,
+}
+
+impl Model for CellChangeList {
+    ghost use Rattle.std.specs.Prelude.{List};
+    ghost use Rattle.mpd_page.specs.declared.changes.CellChange.{CellChange};
+
+    ghost Value = { List CellChange };
+
+    ghost view = { λ l. l.items.items };
+}
+
+/// A handle of a rank has another call, or none.
+#[derive(Clone, Copy)]
+pub struct HandleChange {
+    pub rank: usize,
+    pub handle: usize,
+    /// The number of the call, which is one of the rank.
+    pub call: Option<usize>,
+}
+
+/// Calls of handles, as contracts see them.
+#[derive(Drop)]
+pub struct HandleChangeList {
+    pub items: Vec<HandleChange>,
+}
+
+impl Model for HandleChangeList {
+    ghost use Rattle.std.specs.Prelude.{List};
+    ghost use Rattle.mpd_page.specs.declared.changes.HandleChange.{HandleChange};
+
+    ghost Value = { List HandleChange };
+
+    ghost view = { λ l. l.items.items };
+}
+
+/// A rank has printed a value.
+#[derive(Clone, Copy)]
+pub struct Printed {
+    pub rank: usize,
+    pub value: i64,
+}
+
+/// Values that were printed, as contracts see them.
+#[derive(Drop)]
+pub struct PrintedList {
+    pub items: Vec<Printed>,
+}
+
+impl Model for PrintedList {
+    ghost use Rattle.std.specs.Prelude.{List};
+    ghost use Rattle.mpd_page.specs.declared.changes.Printed.{Printed};
+
+    ghost Value = { List Printed };
+
+    ghost view = { λ l. l.items.items };
+}
+
+/// What is shown of a call.
+#[derive(Clone, Copy)]
+pub struct ShownCall {
+    /// The line, from 1, of the statement that issued it.
+    pub line: usize,
+    pub kind: CallKind,
+}
+
+/// A rank has issued a call, the next of its calls.
+#[derive(Clone, Copy)]
+pub struct NewCall {
+    pub rank: usize,
+    pub call: ShownCall,
+}
+
+/// A rank waits for another reason, or no longer waits.
+#[derive(Drop)]
+pub struct ReasonChange {
+    pub rank: usize,
+    pub reason: Reason,
+}
+
+/// Reasons of ranks, as contracts see them.
+#[derive(Drop)]
+pub struct ReasonChangeList {
+    pub items: Vec<ReasonChange>,
+}
+
+impl Model for ReasonChangeList {
+    ghost use Rattle.std.specs.Prelude.{List};
+    ghost use Rattle.mpd_page.specs.declared.changes.ReasonChange.{ReasonChange};
+    ghost use Rattle.mpd_page.specs.ChangeCodes.{changes_code};
+
+    ghost Value = { List ReasonChange };
+
+    ghost coded = { changes_code };
+
+    ghost view = { λ l. l.items.items };
+}
+
+/// By what a state differs from the one from which a step leads there. Entries stand by rank, and
+/// those of a rank by cell.
+#[derive(Drop)]
+pub struct NodeChange {
+    pub places: PlaceChangeList,
+    pub cells: CellChangeList,
+    pub handles: HandleChangeList,
+    pub printed: PrintedList,
+    /// The call that a local step has issued.
+    pub call: Option<NewCall>,
+    pub reasons: ReasonChangeList,
+}
+
+// ---- where ranks stand
+
+/// Adds the place of a rank, if it is another than it was.
+fn push_place_if(
+    out: &mut Vec<PlaceChange>,
     rank: usize,
-    was: &str,
-    now: &str,
+    was: RankPlace,
+    now: RankPlace,
 ) -> Result<(), AllocError>
-    ensures { OnOk result (string_bytes out.new ≡ string_bytes out.old ++ spec.other_entry rank was.now now.now) }
+    ensures { OnOk result (out.new.items ≡ out.old.items ++ spec.place_if rank was now) }
 {
-    if was == now {
+    if same_place(was, now) {
         return Ok(());
     }
-    write!(out, ",[{rank},{now}]")
+    out.push(PlaceChange { rank, place: now })?;
+    Ok(())
 }
 
 /// Adds where a rank stands, if it is another place than it was.
 fn push_place(
     before: &Core<'_>,
     after: &Core<'_>,
-    out: &mut String,
+    out: &mut Vec<PlaceChange>,
     rank: usize,
 ) -> Result<(), AllocError>
     requires { after.now.program ≡ before.now.program }
-    ensures { OnOk result (string_bytes out.new ≡ string_bytes out.old ++ spec.place_entry before.now.program before.now.world after.now.world rank) }
+    ensures { OnOk result (out.new.items ≡ out.old.items ++ spec.place_entry before.now.program before.now.world after.now.world rank) }
 {
-    let alloc = *out.allocator();
-    let was = place(alloc, before, rank)?;
-    let now = place(alloc, after, rank)?;
-    push_other(out, rank, &was, &now)
+    push_place_if(out, rank, place(before, rank), place(after, rank))
 }
 
-/// Adds all such places.
-pub(crate) fn push_places(
+/// Where ranks stand elsewhere.
+fn places_changed(
+    alloc: Global,
     before: &Core<'_>,
     after: &Core<'_>,
-    out: &mut String,
-) -> Result<(), AllocError>
+) -> Result<PlaceChangeList, AllocError>
     requires { after.now.program ≡ before.now.program }
-    ensures { OnOk result (string_bytes out.new ≡ string_bytes out.old ++ spec.places_changed before.now.program before.now.world after.now.world) }
+    ensures { IfOk result (λ list. list ≡ spec.places_changed before.now.program before.now.world after.now.world) }
 {
+    let mut items = Vec::new(alloc);
     let count = after.rank_count();
     for rank in 0..count {
-        push_place(before, after, out, rank)?;
+        push_place(before, after, &mut items, rank)?;
     }
-    Ok(())
+    Ok(PlaceChangeList { items })
 }
 
-/// Adds where a rank stands, if that isn't line 0.
-fn push_first_place(core: &Core<'_>, out: &mut String, rank: usize) -> Result<(), AllocError>
-    ensures { OnOk result (string_bytes out.new ≡ string_bytes out.old ++ spec.first_entry core.now.program core.now.world rank) }
+/// Adds where a rank stands at the start, if that isn't where it was before.
+fn push_first_place(
+    core: &Core<'_>,
+    out: &mut Vec<PlaceChange>,
+    rank: usize,
+) -> Result<(), AllocError>
+    ensures { OnOk result (out.new.items ≡ out.old.items ++ spec.first_entry core.now.program core.now.world rank) }
 {
-    let now = place(*out.allocator(), core, rank)?;
-    push_other(out, rank, "0", &now)
+    push_place_if(out, rank, nowhere(), place(core, rank))
 }
 
-/// Adds where all ranks stand at the start.
-pub(crate) fn push_first_places(core: &Core<'_>, out: &mut String) -> Result<(), AllocError>
-    ensures { OnOk result (string_bytes out.new ≡ string_bytes out.old ++ spec.first_places core.now.program core.now.world) }
+/// Where ranks stand at the start.
+fn first_places(alloc: Global, core: &Core<'_>) -> Result<PlaceChangeList, AllocError>
+    ensures { IfOk result (λ list. list ≡ spec.first_places core.now.program core.now.world) }
 {
+    let mut items = Vec::new(alloc);
     let count = core.rank_count();
     for rank in 0..count {
-        push_first_place(core, out, rank)?;
+        push_first_place(core, &mut items, rank)?;
     }
-    Ok(())
+    Ok(PlaceChangeList { items })
 }
+
+// ---- what ranks hold
 
 /// What a rank holds in its variables.
 #[tactic(auto, using(crate::proofs::ChangeLemmas::none_held))]
@@ -115,39 +268,69 @@ fn output<'r>(core: &'r Core<'_>, rank: usize) -> &'r [i64]
 
 /// Adds the value of a cell, if it is another than it was.
 fn push_value_if(
-    out: &mut String,
+    out: &mut Vec<CellChange>,
     rank: usize,
     cell: usize,
     was: i64,
     now: i64,
 ) -> Result<(), AllocError>
-    ensures { OnOk result (string_bytes out.new ≡ string_bytes out.old ++ spec.value_by rank cell (Some was) (Some now)) }
+    ensures { OnOk result (out.new.items ≡ out.old.items ++ spec.value_by rank cell (Some was) (Some now)) }
 {
     if was == now {
         return Ok(());
     }
-    write!(out, ",[{rank},{cell},\"{now}\"]")
+    out.push(CellChange {
+        rank,
+        cell,
+        value: now,
+    })?;
+    Ok(())
+}
+
+/// Adds the value of a cell, if it was there and is, and is another than it was.
+fn push_value_by(
+    out: &mut Vec<CellChange>,
+    rank: usize,
+    cell: usize,
+    was: Option<i64>,
+    now: Option<i64>,
+) -> Result<(), AllocError>
+    ensures { OnOk result (out.new.items ≡ out.old.items ++ spec.value_by rank cell was now) }
+{
+    match (was, now) {
+        (Some(was), Some(now)) => push_value_if(out, rank, cell, was, now),
+        (None, _) | (Some(_), None) => Ok(()),
+    }
+}
+
+/// The value of a cell, if there is one.
+fn value_at(values: &[i64], cell: usize) -> Option<i64>
+    ensures { result ≡ slice_get values.now cell }
+{
+    values.get(cell).copied()
 }
 
 /// Adds the value of a cell of a rank, if it is another than it was.
 fn push_value(
-    out: &mut String,
+    out: &mut Vec<CellChange>,
     rank: usize,
     was: &[i64],
     now: &[i64],
     cell: usize,
 ) -> Result<(), AllocError>
-    ensures { OnOk result (string_bytes out.new ≡ string_bytes out.old ++ spec.value_changed rank was.now now.now cell) }
+    ensures { OnOk result (out.new.items ≡ out.old.items ++ spec.value_changed rank was.now now.now cell) }
 {
-    match (was.get(cell).copied(), now.get(cell).copied()) {
-        (Some(was), Some(now)) => push_value_if(out, rank, cell, was, now),
-        _ => Ok(()),
-    }
+    push_value_by(out, rank, cell, value_at(was, cell), value_at(now, cell))
 }
 
 /// Adds the cells of a rank that hold another value.
-fn push_cells(out: &mut String, rank: usize, was: &[i64], now: &[i64]) -> Result<(), AllocError>
-    ensures { OnOk result (string_bytes out.new ≡ string_bytes out.old ++ spec.cells_changed rank was.now now.now) }
+fn push_cells(
+    out: &mut Vec<CellChange>,
+    rank: usize,
+    was: &[i64],
+    now: &[i64],
+) -> Result<(), AllocError>
+    ensures { OnOk result (out.new.items ≡ out.old.items ++ spec.cells_changed rank was.now now.now) }
 {
     let count = now.len();
     for cell in 0..count {
@@ -160,27 +343,28 @@ fn push_cells(out: &mut String, rank: usize, was: &[i64], now: &[i64]) -> Result
 fn push_values_at(
     before: &Core<'_>,
     after: &Core<'_>,
-    out: &mut String,
+    out: &mut Vec<CellChange>,
     rank: usize,
 ) -> Result<(), AllocError>
-    ensures { OnOk result (string_bytes out.new ≡ string_bytes out.old ++ spec.values_at before.now.world after.now.world rank) }
+    ensures { OnOk result (out.new.items ≡ out.old.items ++ spec.values_at before.now.world after.now.world rank) }
 {
     push_cells(out, rank, variables(before, rank), variables(after, rank))
 }
 
-/// Adds those of all ranks.
-pub(crate) fn push_values(
+/// The cells of all ranks that hold another value.
+fn values_changed(
+    alloc: Global,
     before: &Core<'_>,
     after: &Core<'_>,
-    out: &mut String,
-) -> Result<(), AllocError>
-    ensures { OnOk result (string_bytes out.new ≡ string_bytes out.old ++ spec.values_changed before.now.world after.now.world) }
+) -> Result<CellChangeList, AllocError>
+    ensures { IfOk result (λ list. list ≡ spec.values_changed before.now.world after.now.world) }
 {
+    let mut items = Vec::new(alloc);
     let count = after.rank_count();
     for rank in 0..count {
-        push_values_at(before, after, out, rank)?;
+        push_values_at(before, after, &mut items, rank)?;
     }
-    Ok(())
+    Ok(CellChangeList { items })
 }
 
 /// Whether two handles have the same call, or none.
@@ -194,58 +378,71 @@ fn is_same_call(one: Option<usize>, other: Option<usize>) -> bool
     }
 }
 
-/// Adds a number, or that there is none.
-fn push_number(out: &mut String, number: Option<usize>) -> Result<(), AllocError>
-    ensures { OnOk result (string_bytes out.new ≡ string_bytes out.old ++ spec.number_or_null number) }
-{
-    match number {
-        None => out.push_str("null"),
-        Some(number) => write!(out, "{number}"),
-    }
-}
-
 /// Adds the call of a handle, if it is another than it was.
 fn push_handle_if(
-    out: &mut String,
+    out: &mut Vec<HandleChange>,
     rank: usize,
-    cell: usize,
+    handle: usize,
     was: Option<usize>,
     now: Option<usize>,
 ) -> Result<(), AllocError>
-    ensures { OnOk result (string_bytes out.new ≡ string_bytes out.old ++ spec.handle_by rank cell (Some was) (Some now)) }
+    ensures { OnOk result (out.new.items ≡ out.old.items ++ spec.handle_by rank handle (Some was) (Some now)) }
 {
     if is_same_call(was, now) {
         return Ok(());
     }
-    write!(out, ",[{rank},{cell},")?;
-    push_number(out, now)?;
-    out.push_str("]")
+    out.push(HandleChange {
+        rank,
+        handle,
+        call: now,
+    })?;
+    Ok(())
+}
+
+/// Adds the call of a handle, if the handle was there and is, and the call is another than it was.
+fn push_handle_by(
+    out: &mut Vec<HandleChange>,
+    rank: usize,
+    handle: usize,
+    was: Option<Option<usize>>,
+    now: Option<Option<usize>>,
+) -> Result<(), AllocError>
+    ensures { OnOk result (out.new.items ≡ out.old.items ++ spec.handle_by rank handle was now) }
+{
+    match (was, now) {
+        (Some(was), Some(now)) => push_handle_if(out, rank, handle, was, now),
+        (None, _) | (Some(_), None) => Ok(()),
+    }
+}
+
+/// The call of a handle, if there is such a handle.
+fn handle_at(handles: &[Option<usize>], handle: usize) -> Option<Option<usize>>
+    ensures { result ≡ slice_get handles.now handle }
+{
+    handles.get(handle).copied()
 }
 
 /// Adds the call of a handle of a rank, if it is another than it was.
 fn push_handle(
-    out: &mut String,
+    out: &mut Vec<HandleChange>,
     rank: usize,
     was: &[Option<usize>],
     now: &[Option<usize>],
     cell: usize,
 ) -> Result<(), AllocError>
-    ensures { OnOk result (string_bytes out.new ≡ string_bytes out.old ++ spec.handle_changed rank was.now now.now cell) }
+    ensures { OnOk result (out.new.items ≡ out.old.items ++ spec.handle_changed rank was.now now.now cell) }
 {
-    match (was.get(cell).copied(), now.get(cell).copied()) {
-        (Some(was), Some(now)) => push_handle_if(out, rank, cell, was, now),
-        _ => Ok(()),
-    }
+    push_handle_by(out, rank, cell, handle_at(was, cell), handle_at(now, cell))
 }
 
 /// Adds the handles of a rank that have another call.
 fn push_requests(
-    out: &mut String,
+    out: &mut Vec<HandleChange>,
     rank: usize,
     was: &[Option<usize>],
     now: &[Option<usize>],
 ) -> Result<(), AllocError>
-    ensures { OnOk result (string_bytes out.new ≡ string_bytes out.old ++ spec.requests_changed rank was.now now.now) }
+    ensures { OnOk result (out.new.items ≡ out.old.items ++ spec.requests_changed rank was.now now.now) }
 {
     let count = now.len();
     for cell in 0..count {
@@ -258,28 +455,31 @@ fn push_requests(
 fn push_handles_at(
     before: &Core<'_>,
     after: &Core<'_>,
-    out: &mut String,
+    out: &mut Vec<HandleChange>,
     rank: usize,
 ) -> Result<(), AllocError>
-    ensures { OnOk result (string_bytes out.new ≡ string_bytes out.old ++ spec.handles_at before.now.world after.now.world rank) }
+    ensures { OnOk result (out.new.items ≡ out.old.items ++ spec.handles_at before.now.world after.now.world rank) }
 {
     push_requests(out, rank, handles(before, rank), handles(after, rank))
 }
 
-/// Adds those of all ranks.
-pub(crate) fn push_handles(
+/// The handles of all ranks that have another call.
+fn handles_changed(
+    alloc: Global,
     before: &Core<'_>,
     after: &Core<'_>,
-    out: &mut String,
-) -> Result<(), AllocError>
-    ensures { OnOk result (string_bytes out.new ≡ string_bytes out.old ++ spec.handles_changed before.now.world after.now.world) }
+) -> Result<HandleChangeList, AllocError>
+    ensures { IfOk result (λ list. list ≡ spec.handles_changed before.now.world after.now.world) }
 {
+    let mut items = Vec::new(alloc);
     let count = after.rank_count();
     for rank in 0..count {
-        push_handles_at(before, after, out, rank)?;
+        push_handles_at(before, after, &mut items, rank)?;
     }
-    Ok(())
+    Ok(HandleChangeList { items })
 }
+
+// ---- what ranks have printed
 
 /// The values after the first `count`.
 fn values_behind(count: usize, values: &[i64]) -> &[i64]
@@ -290,11 +490,14 @@ fn values_behind(count: usize, values: &[i64]) -> &[i64]
 }
 
 /// Adds values that a rank has printed.
-fn push_all_printed(out: &mut String, rank: usize, values: &[i64]) -> Result<(), AllocError>
-    ensures { OnOk result (string_bytes out.new ≡ string_bytes out.old ++ flat_map (spec.printed_entry rank) values.now) }
+fn push_all_printed(out: &mut Vec<Printed>, rank: usize, values: &[i64]) -> Result<(), AllocError>
+    ensures { OnOk result (out.new.items ≡ out.old.items ++ map (spec.printed_entry rank) values.now) }
 {
     for value in values {
-        write!(out, ",[{rank},\"{value}\"]")?;
+        out.push(Printed {
+            rank,
+            value: *value,
+        })?;
     }
     Ok(())
 }
@@ -303,97 +506,157 @@ fn push_all_printed(out: &mut String, rank: usize, values: &[i64]) -> Result<(),
 fn push_printed_at(
     before: &Core<'_>,
     after: &Core<'_>,
-    out: &mut String,
+    out: &mut Vec<Printed>,
     rank: usize,
 ) -> Result<(), AllocError>
-    ensures { OnOk result (string_bytes out.new ≡ string_bytes out.old ++ spec.printed_at before.now.world after.now.world rank) }
+    ensures { OnOk result (out.new.items ≡ out.old.items ++ spec.printed_at before.now.world after.now.world rank) }
 {
     let count = output(before, rank).len();
     push_all_printed(out, rank, values_behind(count, output(after, rank)))
 }
 
-/// Adds what all ranks have printed since.
-pub(crate) fn push_printed(
+/// What all ranks have printed since.
+fn printed_since(
+    alloc: Global,
     before: &Core<'_>,
     after: &Core<'_>,
-    out: &mut String,
-) -> Result<(), AllocError>
-    ensures { OnOk result (string_bytes out.new ≡ string_bytes out.old ++ spec.printed before.now.world after.now.world) }
+) -> Result<PrintedList, AllocError>
+    ensures { IfOk result (λ list. list ≡ spec.printed before.now.world after.now.world) }
 {
+    let mut items = Vec::new(alloc);
     let count = after.rank_count();
     for rank in 0..count {
-        push_printed_at(before, after, out, rank)?;
+        push_printed_at(before, after, &mut items, rank)?;
     }
-    Ok(())
+    Ok(PrintedList { items })
 }
 
-/// Adds that a send was buffered as it was issued, in a mode whose buffers run out.
-fn push_buffered(out: &mut String, mode: Mode, kind: CallKind) -> Result<(), AllocError>
-    ensures { OnOk result (string_bytes out.new ≡ string_bytes out.old ++ buffer_text mode kind) }
+// ---- the call that a step has issued
+
+/// The call of this number, as one that its rank has issued.
+fn new_call(core: &Core<'_>, id: CallId) -> Option<NewCall>
+    ensures { result ≡ option_map (spec.new_call core.now.program id.rank) (call_at core.now.world.board id) }
 {
-    if let (Mode::Slots(_), CallKind::Send(send)) = (mode, kind) {
-        if send.buffered {
-            out.push_str(" buffered")?;
-        }
-    }
-    Ok(())
+    let call = core.board().call(id)?;
+    Some(NewCall {
+        rank: id.rank,
+        call: ShownCall {
+            line: issue_line(core, id),
+            kind: call.kind,
+        },
+    })
 }
 
-/// The words of a call.
-fn call_words(core: &Core<'_>, out: &mut String, call: Call) -> Result<(), AllocError>
-    ensures { OnOk result (string_bytes out.new ≡ string_bytes out.old ++ spec.call_words core.now.world.board call) }
-{
-    let kind = call.kind;
-    write!(out, "{kind}")?;
-    push_buffered(out, core.board().mode(), kind)
-}
-
-/// Adds a call, with the line of its statement.
-fn push_call_at(
-    core: &Core<'_>,
-    out: &mut Vec<u8>,
-    line: usize,
-    call: Call,
-) -> Result<(), AllocError>
-    requires { line ≡ issue_line_of core.now.program.lines (Some call) }
-    ensures { OnOk result (out.new.items ≡ out.old.items ++ spec.call_member core.now.program core.now.world.board (Some call)) }
-{
-    let alloc = *out.allocator();
-    let mut head = String::new(alloc);
-    write!(head, ",\"c\":[{line},")?;
-    let mut words = String::new(alloc);
-    call_words(core, &mut words, call)?;
-    add_text(out, &head)?;
-    push_quoted(out, words.as_bytes())?;
-    add_text(out, "]")
-}
-
-/// Adds a call, if there is one.
-fn push_call(core: &Core<'_>, out: &mut Vec<u8>, id: CallId) -> Result<(), AllocError>
-    ensures { OnOk result (out.new.items ≡ out.old.items ++ spec.call_member core.now.program core.now.world.board (call_at core.now.world.board id)) }
-{
-    let Some(call) = core.board().call(id) else {
-        return Ok(());
-    };
-    push_call_at(core, out, issue_line(core, id), call)
-}
-
-/// Adds the call that a local step has issued.
-pub(crate) fn push_issued(
-    before: &Core<'_>,
-    after: &Core<'_>,
-    out: &mut Vec<u8>,
-    step: Step,
-) -> Result<(), AllocError>
-    ensures { OnOk result (out.new.items ≡ out.old.items ++ spec.issued_by after.now.program before.now.world after.now.world step) }
+/// The call that a local step has issued.
+fn issued_by(before: &Core<'_>, after: &Core<'_>, step: Step) -> Option<NewCall>
+    ensures { result ≡ spec.issued_by after.now.program before.now.world after.now.world step }
 {
     match step {
         Step::Local(rank) => {
             let index = before.board().call_count(rank);
-            push_call(after, out, CallId { rank, index })
+            new_call(after, CallId { rank, index })
         }
         Step::Match(_, _) | Step::Wake(_) | Step::WakeAny { rank: _, index: _ } | Step::Release => {
-            Ok(())
+            None
         }
     }
+}
+
+// ---- why ranks wait
+
+/// Adds why a rank waits, if it is another reason than it was.
+fn push_reason_if(
+    out: &mut Vec<ReasonChange>,
+    rank: usize,
+    was: Reason,
+    now: Reason,
+) -> Result<(), AllocError>
+    ensures { OnOk result (out.new.items ≡ out.old.items ++ spec.reason_if rank was now) }
+{
+    if same_reason(&was, &now) {
+        return Ok(());
+    }
+    out.push(ReasonChange { rank, reason: now })?;
+    Ok(())
+}
+
+/// Adds why a rank waits, if that is another reason than it was, given both states.
+fn push_reason(
+    before: &Core<'_>,
+    after: &Core<'_>,
+    out: &mut Vec<ReasonChange>,
+    rank: usize,
+) -> Result<(), AllocError>
+    ensures { OnOk result (out.new.items ≡ out.old.items ++ spec.reason_entry before.now.world after.now.world rank) }
+{
+    let alloc = *out.allocator();
+    let was = reason_of(alloc, before, rank)?;
+    let now = reason_of(alloc, after, rank)?;
+    push_reason_if(out, rank, was, now)
+}
+
+/// The ranks that wait for another reason.
+fn reasons_changed(
+    alloc: Global,
+    before: &Core<'_>,
+    after: &Core<'_>,
+) -> Result<ReasonChangeList, AllocError>
+    ensures { IfOk result (λ list. list ≡ spec.reasons_changed before.now.world after.now.world) }
+{
+    let mut items = Vec::new(alloc);
+    let count = after.rank_count();
+    for rank in 0..count {
+        push_reason(before, after, &mut items, rank)?;
+    }
+    Ok(ReasonChangeList { items })
+}
+
+// ---- all of it
+
+/// By what a state differs from the one from which a step leads there.
+pub(crate) fn node_change(
+    alloc: Global,
+    before: &Core<'_>,
+    after: &Core<'_>,
+    step: Step,
+) -> Result<NodeChange, AllocError>
+    requires { after.now.program ≡ before.now.program }
+    ensures { IfOk result (λ c. c ≡ spec.node_change before.now.program before.now.world after.now.world step) }
+{
+    let places = places_changed(alloc, before, after)?;
+    let cells = values_changed(alloc, before, after)?;
+    let handles = handles_changed(alloc, before, after)?;
+    let printed = printed_since(alloc, before, after)?;
+    let reasons = reasons_changed(alloc, before, after)?;
+    Ok(NodeChange {
+        places,
+        cells,
+        handles,
+        printed,
+        call: issued_by(before, after, step),
+        reasons,
+    })
+}
+
+/// By what the start differs from what was before it.
+pub(crate) fn first_change(alloc: Global, core: &Core<'_>) -> Result<NodeChange, AllocError>
+    ensures { IfOk result (λ c. c ≡ spec.first_change core.now.program core.now.world) }
+{
+    let places = first_places(alloc, core)?;
+    Ok(NodeChange {
+        places,
+        cells: CellChangeList {
+            items: Vec::new(alloc),
+        },
+        handles: HandleChangeList {
+            items: Vec::new(alloc),
+        },
+        printed: PrintedList {
+            items: Vec::new(alloc),
+        },
+        call: None,
+        reasons: ReasonChangeList {
+            items: Vec::new(alloc),
+        },
+    })
 }

@@ -1,22 +1,20 @@
 //! How the runs of a page end (docs/PAGES.md, "Ends").
 
-ghost use Rattle.std.specs.Prelude.{◌≡◌, ◌≤◌, ◌++◌, None, IfOk, OnOk, length, string_bytes};
+ghost use Rattle.std.specs.Prelude.{◌≡◌, ◌≤◌, IfOk, OnOk, length};
 ghost use Rattle.mpd_model.specs.runs.Trail.{done_steps};
 ghost use Rattle.mpd_explain.specs.Ends.{end_of as end_there};
 ghost use Rattle.mpd_page.specs.Ends as spec;
-ghost use Rattle.mpd_page.specs.Ends.{DecidesIf, EndAdded, EndTold, IsEndIn};
+ghost use Rattle.mpd_page.specs.Ends.{DecidesIf, EndAdded, IsEndIn};
 ghost use Rattle.mpd_blame.specs.Told.{IsBlamed};
-ghost use Rattle.mpd_explore.specs.ReportText.{ending_text};
 ghost use Rattle.mpd_outcomes.specs.Goals.{meets};
 ghost use Rattle.mpd_outcomes.specs.declared.report.Goal.TheVariants.{Bad};
 
-use crate::json::{add, add_text, push_lines, push_member, push_quoted};
-use mpd_blame::{Blame, PlacedBlame, blame_run, place_blame};
+use mpd_blame::{MarkedBlame, PlacedBlame, blame_run, place_blame};
 use mpd_core::Core;
 use mpd_explain::{End, Loss, LossList, all_losses, end_of, push_end as push_told, push_losses};
 use mpd_explore::Witnesses;
-use mpd_marks::push_marked;
-use mpd_model::{Decl, STEPS_MAX, print_outcome};
+use mpd_model::{Decl, STEPS_MAX};
+use mpd_names::Marks;
 use mpd_outcomes::{Goal, StateLimits};
 use mpd_policy::Ending;
 use mpd_runs::{FUEL, STATES_KEPT};
@@ -34,6 +32,14 @@ pub struct RunEnd {
     pub lost: LossList,
     /// Where it was decided that it ends so, if it hangs or traps.
     pub decided: Option<PlacedBlame>,
+}
+
+/// How a run of a page ends.
+#[derive(Drop)]
+pub struct PageEnd {
+    /// The number of the state in which it ends.
+    pub node: usize,
+    pub end: RunEnd,
 }
 
 // ---- what is known of an end
@@ -149,191 +155,60 @@ fn end_in(alloc: Global, whole: &mut Debugger<'_>, most: usize) -> Result<RunEnd
     }
 }
 
-// ---- what is told of it
-
-/// Adds the lines of a text under a key, if there are any.
-#[tactic(auto, unfolding(crate::specs::Ends::lines_if))]
-fn push_lines_if(out: &mut Vec<u8>, key: &str, text: &[u8]) -> Result<(), AllocError>
-    ensures { OnOk result (out.new.items ≡ out.old.items ++ spec.lines_if key.now text.now) }
-{
-    let mut lines = Vec::new(*out.allocator());
-    push_lines(&mut lines, text)?;
-    push_member(out, key, &lines)
-}
-
-/// Adds how a run ends, or that it is cut.
-fn push_ending(alloc: Global, out: &mut String, ending: &Ending) -> Result<(), AllocError>
-    ensures { OnOk result (string_bytes out.new ≡ string_bytes out.old ++ ending_text ending.now) }
-{
-    match ending {
-        Ending::Cut => out.push_str("cut"),
-        Ending::Ended(outcome) => {
-            let text = print_outcome(alloc, outcome)?;
-            out.push_str(&text)
-        }
-    }
-}
-
-/// Adds in which state a run ends, and how.
-#[tactic(auto, unfolding(crate::specs::Ends::outcome_text))]
-fn push_outcome(
-    alloc: Global,
-    out: &mut Vec<u8>,
-    number: usize,
-    ending: &Ending,
-) -> Result<(), AllocError>
-    ensures { OnOk result (out.new.items ≡ out.old.items ++ spec.outcome_text number ending.now) }
-{
-    let mut head = String::new(alloc);
-    write!(head, ",\n{{\"node\":{number},\"outcome\":")?;
-    let mut words = String::new(alloc);
-    push_ending(alloc, &mut words, ending)?;
-    add_text(out, &head)?;
-    push_quoted(out, words.as_bytes())
-}
-
-/// A told text with the places of marks of the script beside lines.
-fn marked_bytes(alloc: Global, script: &[u8], told: &str) -> Result<Vec<u8>, AllocError> {
-    let mut out = Vec::new(alloc);
-    push_marked(&mut out, script, told.as_bytes())?;
-    Ok(out)
-}
-
-/// What is told of an end, given the declarations and the text of the script.
-fn told_words(
-    alloc: Global,
-    decls: &[Decl],
-    script: &[u8],
-    end: &End,
-) -> Result<Vec<u8>, AllocError> {
-    let mut told = String::new(alloc);
-    push_told(&mut told, decls, end)?;
-    marked_bytes(alloc, script, &told)
-}
-
-/// What is told of the requests that are lost.
-fn lost_words(alloc: Global, script: &[u8], lost: &[Loss]) -> Result<Vec<u8>, AllocError> {
-    let mut told = String::new(alloc);
-    push_losses(&mut told, lost)?;
-    marked_bytes(alloc, script, &told)
-}
-
-/// What is told of where it was decided; nothing if that was not looked for.
-fn decided_words(
-    alloc: Global,
-    script: &[u8],
-    decided: Option<PlacedBlame>,
-) -> Result<Vec<u8>, AllocError> {
-    let mut told = String::new(alloc);
-    if let Some(blame) = decided {
-        write!(told, "{blame}")?;
-    }
-    marked_bytes(alloc, script, &told)
-}
-
-/// Adds the depth at which it was decided, if that is known.
-fn push_depth(out: &mut String, blame: Blame) -> Result<(), AllocError>
-    ensures { OnOk result (string_bytes out.new ≡ string_bytes out.old ++ spec.depth_text blame) }
-{
-    match blame {
-        Blame::At(decided) => {
-            let depth = decided.depth;
-            write!(out, "{depth}")
-        }
-        Blame::FromStart | Blame::OrEarlier(_) | Blame::Open | Blame::Unknown => {
-            out.push_str("null")
-        }
-    }
-}
-
-/// Where it was decided, in these words.
-#[tactic(auto, unfolding(crate::specs::Ends::decided_text))]
-fn decided_text(alloc: Global, blame: Blame, words: &[u8]) -> Result<Vec<u8>, AllocError>
-    ensures { IfOk result (λ t. t.items ≡ spec.decided_text blame words.now) }
-{
-    let mut head = String::new(alloc);
-    head.push_str(",\"decided\":[")?;
-    push_depth(&mut head, blame)?;
-    head.push_str(",")?;
-    let mut text = Vec::new(alloc);
-    add_text(&mut text, &head)?;
-    push_quoted(&mut text, words)?;
-    add_text(&mut text, "]")?;
-    Ok(text)
-}
-
-/// Adds that, if it was looked for.
-fn push_decided(
-    out: &mut Vec<u8>,
-    decided: Option<PlacedBlame>,
-    words: &[u8],
-) -> Result<(), AllocError>
-    ensures { OnOk result (out.new.items ≡ out.old.items ++ spec.decided_by decided words.now) }
-{
-    match decided {
-        None => Ok(()),
-        Some(placed) => {
-            let text = decided_text(*out.allocator(), placed.blame, words)?;
-            add(out, &text)
-        }
-    }
-}
-
-/// Adds how a run ends in the state of this number, in these words.
-#[tactic(auto, unfolding(crate::specs::Ends::end_text))]
-fn push_end_text(
-    out: &mut Vec<u8>,
-    number: usize,
-    end: &RunEnd,
-    told: &[u8],
-    lost: &[u8],
-    decided: &[u8],
-) -> Result<(), AllocError>
-    ensures { OnOk result (out.new.items ≡ out.old.items ++ spec.end_text number end.now told.now lost.now decided.now) }
-{
-    push_outcome(*out.allocator(), out, number, &end.ending)?;
-    push_lines_if(out, "told", told)?;
-    push_lines_if(out, "lost", lost)?;
-    push_decided(out, end.decided, decided)?;
-    add_text(out, "}")
-}
-
-/// Adds how a run ends in the state of this number, given the declarations and the text of the
-/// script.
-#[tactic(auto, using(crate::proofs::EndLemmas::told_so))]
-fn push_told_end(
-    out: &mut Vec<u8>,
-    number: usize,
-    decls: &[Decl],
-    script: &[u8],
-    end: &RunEnd,
-) -> Result<(), AllocError>
-    ensures { OnOk result (EndTold number end.now out.old.items out.new.items) }
-{
-    let alloc = *out.allocator();
-    let told = told_words(alloc, decls, script, &end.end)?;
-    let lost = lost_words(alloc, script, &end.lost.items)?;
-    let decided = decided_words(alloc, script, end.decided)?;
-    push_end_text(out, number, end, &told, &lost, &decided)
-}
+// ---- what is added
 
 /// Adds the end of the run of a debugger, in the state of this number; the step that decides is
 /// looked for in so many states at most. The debugger is left on the way back along its run.
 #[tactic(auto, using(crate::proofs::EndLemmas::ending))]
 pub(crate) fn push_end(
     whole: &mut Debugger<'_>,
-    out: &mut Vec<u8>,
-    number: usize,
-    script: &[u8],
+    ends: &mut Vec<PageEnd>,
+    node: usize,
     most: usize,
 ) -> Result<(), AllocError>
-    ensures { OnOk result (EndAdded most whole.old.trail.program whole.old.trail.mode number (done_steps whole.old.trail) out.old.items out.new.items) }
+    ensures { OnOk result (EndAdded most whole.old.trail.program whole.old.trail.mode node (done_steps whole.old.trail) ends.old.items ends.new.items) }
 {
     whole.state_is_reached();
     whole.forget_undone();
-    let end = end_in(*out.allocator(), whole, most)?;
-    let added = push_told_end(out, number, whole.core().code().decls(), script, &end);
-    drop(end);
-    added?;
+    let end = end_in(*ends.allocator(), whole, most)?;
+    ends.push(PageEnd { node, end })?;
     Ok(())
+}
+
+// ---- what is told of it
+
+/// What is told of an end, given the declarations and the marks of the script.
+pub(crate) fn told_words(
+    alloc: Global,
+    decls: &[Decl],
+    marks: Marks<'_>,
+    end: &End,
+) -> Result<String, AllocError> {
+    let mut told = String::new(alloc);
+    push_told(&mut told, decls, marks, end)?;
+    Ok(told)
+}
+
+/// What is told of the requests that are lost.
+pub(crate) fn lost_words(
+    alloc: Global,
+    marks: Marks<'_>,
+    lost: &[Loss],
+) -> Result<String, AllocError> {
+    let mut told = String::new(alloc);
+    push_losses(&mut told, marks, lost)?;
+    Ok(told)
+}
+
+/// What is told of where it was decided; nothing if that was not looked for.
+pub(crate) fn decided_words(
+    alloc: Global,
+    marks: Marks<'_>,
+    decided: Option<PlacedBlame>,
+) -> Result<String, AllocError> {
+    let mut told = String::new(alloc);
+    if let Some(blame) = decided {
+        write!(told, "{}", MarkedBlame(blame, marks))?;
+    }
+    Ok(told)
 }

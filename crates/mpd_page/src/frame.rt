@@ -3,7 +3,7 @@
 ghost use Rattle.std.specs.Prelude.{◌≡◌, ◌++◌, OnOk};
 ghost use Rattle.mpd_page.specs.Templates as spec;
 
-use crate::json::add_text;
+use crate::sink::add_text;
 use crate::template::{
     HEAD_0, HEAD_1, HEAD_2, TAIL_0, TAIL_1, TAIL_2, TAIL_3, TAIL_4, TAIL_5, TAIL_6, TAIL_7,
 };

@@ -1,8 +1,8 @@
 //! Laws of pages.
 
-ghost use Rattle.mpd_page.specs.PageLaws.{ChangesLeadOn, NoMarkup, ParentsComeFirst, RunsAreShown, StartIsShown, TextsTellChanges};
+ghost use Rattle.mpd_page.specs.PageLaws.{ChangesLeadOn, NoMarkup, ParentsComeFirst, RunsAreShown, StartIsShown};
 
-/// A law: the changes of a step, applied to what is shown of the state before it, give what is
+/// A law: the changes that are told of a step, applied to what is shown of the state before it, give what is
 /// shown of the state to which it leads. What is told of the start gives what is shown there, and
 /// so do the changes of a run, applied in turn, of the state to which its steps lead.
 #[tactic(auto, using(crate::proofs::LawLemmas::showing))]
@@ -12,8 +12,8 @@ pub fn states_are_shown()
     ensures runs { RunsAreShown }
 {}
 
-/// A law: the data of a page has no `<`.
-#[tactic(auto, using(crate::proofs::DataLemmas::no_markup))]
+/// A law: what is written between the two parts of the template has no `<`.
+#[tactic(auto, using(crate::proofs::MarkupLemmas::no_markup))]
 pub fn data_has_no_markup()
     ensures { NoMarkup }
 {}
@@ -22,10 +22,4 @@ pub fn data_has_no_markup()
 #[tactic(auto, using(crate::proofs::ParentLemmas::parents_come_first))]
 pub fn parents_come_first()
     ensures { ParentsComeFirst }
-{}
-
-/// A law: the text of a state is told by its changes alone.
-#[tactic(auto, using(crate::proofs::TellingLemmas::texts_tell_changes))]
-pub fn texts_tell_changes()
-    ensures { TextsTellChanges }
 {}

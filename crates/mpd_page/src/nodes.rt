@@ -6,23 +6,23 @@ ghost use Rattle.mpd_model.specs.steps.Next.{next, fold};
 ghost use Rattle.mpd_model.specs.runs.Trail.{done_steps};
 ghost use Rattle.mpd_page.specs.Trees as spec;
 
-use crate::json::add_text;
-use crate::node::{Way, push_node};
+use crate::ends::PageEnd;
+use crate::node::{Node, Way, node_of};
 use crate::tree::{Branch, PageFault, STATES_MAX, child, grow};
 use crate::walk::Walk;
 use mpd_model::Step;
 use mpd_trail::Debugger;
 use std::alloc::{AllocError, Global};
 
-/// What is made so far of a page's states.
+/// Some runs, their states and their ends.
 #[derive(Drop)]
 pub struct Drawn {
-    /// All but the start.
+    /// The states but the start, each by the step that leads there.
     pub tree: Vec<Branch>,
-    /// Their text.
-    pub text: Vec<u8>,
-    /// The text of the ends.
-    pub ends: Vec<u8>,
+    /// What is told of each state, the start first.
+    pub nodes: Vec<Node>,
+    /// How each run ends.
+    pub ends: Vec<PageEnd>,
 }
 
 /// Takes a step.
@@ -59,21 +59,22 @@ fn take_both(
     take(behind, step)
 }
 
-/// Adds the line of a new state.
-fn push_line(
+/// Adds what is told of a new state.
+fn push_node(
     behind: &Debugger<'_>,
     ahead: &Debugger<'_>,
     drawn: &mut Drawn,
     way: Way,
 ) -> Result<(), AllocError>
     requires program { ahead.now.trail.program ≡ behind.now.trail.program }
-    ensures text { OnOk result (drawn.new.text.items ≡ drawn.old.text.items ++ spec.node_line behind.now.trail.program way.walk drawn.old.tree.items way.at behind.now.world ahead.now.world way.step way.more) }
+    ensures nodes { OnOk result (drawn.new.nodes.items ≡ drawn.old.nodes.items ++ spec.new_node behind.now.trail.program way.walk way.at behind.now.world ahead.now.world way.step way.more) }
     ensures tree { drawn.new.tree.items ≡ drawn.old.tree.items }
     ensures ends { drawn.new.ends.items ≡ drawn.old.ends.items }
 {
-    let last = drawn.tree.len();
-    add_text(&mut drawn.text, ",\n")?;
-    push_node(behind.core(), ahead.core(), &mut drawn.text, last, way)
+    let alloc = *drawn.nodes.allocator();
+    let told = node_of(alloc, behind.core(), ahead.core(), way)?;
+    drawn.nodes.push(told)?;
+    Ok(())
 }
 
 /// Adds a new state, and answers its number.
@@ -89,7 +90,7 @@ fn push_new(
     ensures number { IfOk result (λ n. n ≡ length drawn.old.tree.items + 1) }
     ensures tree { OnOk result (drawn.new.tree.items ≡ spec.grown drawn.old.tree.items way.at way.step) }
     ensures few { OnOk result (length drawn.new.tree.items + 1 ≤ STATES_MAX) }
-    ensures text { OnOk result (drawn.new.text.items ≡ drawn.old.text.items ++ spec.node_line behind.old.trail.program way.walk drawn.old.tree.items way.at behind.old.world ahead.new.world way.step way.more) }
+    ensures nodes { OnOk result (drawn.new.nodes.items ≡ drawn.old.nodes.items ++ spec.new_node behind.old.trail.program way.walk way.at behind.old.world ahead.new.world way.step way.more) }
     ensures ends { drawn.new.ends.items ≡ drawn.old.ends.items }
     ensures leads { OnOk result (next behind.old.world way.step ≡ Some ahead.new.world) }
     ensures same { OnOk result (behind.new.world ≡ ahead.new.world) }
@@ -104,7 +105,7 @@ fn push_new(
         return Err(PageFault::TooMany);
     }
     take(ahead, way.step)?;
-    push_line(behind, ahead, drawn, way)?;
+    push_node(behind, ahead, drawn, way)?;
     grow(&mut drawn.tree, way.at, way.step)?;
     take(behind, way.step)?;
     Ok(number)
@@ -125,7 +126,7 @@ fn go_on(
     ensures within { IfOk result (λ n. n ≤ length drawn.new.tree.items) }
     ensures tree { OnOk result (drawn.new.tree.items ≡ spec.tree_there drawn.old.tree.items way.at way.step) }
     ensures few { OnOk result (length drawn.new.tree.items + 1 ≤ STATES_MAX) }
-    ensures text { OnOk result (drawn.new.text.items ≡ drawn.old.text.items ++ spec.line_there behind.old.trail.program way.walk drawn.old.tree.items way.at behind.old.world ahead.new.world way.step way.more) }
+    ensures nodes { OnOk result (drawn.new.nodes.items ≡ drawn.old.nodes.items ++ spec.node_there behind.old.trail.program way.walk drawn.old.tree.items way.at behind.old.world ahead.new.world way.step way.more) }
     ensures ends { drawn.new.ends.items ≡ drawn.old.ends.items }
     ensures leads { OnOk result (next behind.old.world way.step ≡ Some ahead.new.world) }
     ensures same { OnOk result (behind.new.world ≡ ahead.new.world) }
@@ -158,7 +159,7 @@ pub(crate) fn follow(
     ensures number { IfOk result (λ n. n ≡ spec.run_end drawn.old.tree.items 0 steps.now) }
     ensures tree { OnOk result (drawn.new.tree.items ≡ spec.run_tree drawn.old.tree.items 0 steps.now) }
     ensures few { OnOk result (length drawn.new.tree.items + 1 ≤ STATES_MAX) }
-    ensures text { OnOk result (drawn.new.text.items ≡ drawn.old.text.items ++ spec.run_text behind.old.trail.program walk drawn.old.tree.items 0 behind.old.world steps.now) }
+    ensures nodes { OnOk result (drawn.new.nodes.items ≡ drawn.old.nodes.items ++ spec.run_nodes behind.old.trail.program walk drawn.old.tree.items 0 behind.old.world steps.now) }
     ensures ends { drawn.new.ends.items ≡ drawn.old.ends.items }
     ensures leads { OnOk result (fold behind.old.world steps.now ≡ Some ahead.new.world) }
     ensures program_ahead { OnOk result (ahead.new.trail.program ≡ ahead.old.trail.program) }

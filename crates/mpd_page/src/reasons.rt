@@ -1,99 +1,123 @@
 //! Why a rank waits (docs/PAGES.md, "States").
 
-ghost use Rattle.std.specs.Prelude.{◌≡◌, ◌++◌, IfOk, OnOk, string_bytes};
-ghost use Rattle.std.specs.List.{flat_map};
-ghost use Rattle.mpd_model.specs.steps.World.{rank_numbers};
+ghost use Rattle.std.specs.Prelude.{◌≡◌, ◌++◌, [], ◌∷◌, if◌then◌else◌, Some, IfOk, OnOk, map};
 ghost use Rattle.mpd_model.specs.steps.Next.{is_at_barrier as at_barrier};
 ghost use Rattle.mpd_explain.specs.Requests.{requests as requested};
+ghost use Rattle.mpd_explain.specs.Waits.{absent as absent_ranks};
 ghost use Rattle.mpd_page.specs.Reasons as spec;
 
-use crate::changes::push_other;
 use mpd_core::Core;
 use mpd_explain::requests;
 use mpd_model::{CallId, CallKind, is_barrier};
 use mpd_names::is_blocked;
 use std::alloc::{AllocError, Global};
+use std::marker::Model;
 
-/// Adds the call that holds a match back, if one does.
-fn push_holder(out: &mut String, holder: Option<CallId>) -> Result<(), AllocError>
-    ensures { OnOk result (string_bytes out.new ≡ string_bytes out.old ++ spec.holder_text holder) }
-{
-    match holder {
-        None => Ok(()),
-        Some(call) => write!(out, " {call}"),
-    }
+/// Calls that a call could be matched with, each with the call that holds the match back, if one
+/// does, as contracts see them.
+#[derive(Drop)]
+pub struct PartnerList {
+    pub items: Vec<(CallId, Option<CallId>)>,
 }
 
-/// Adds a call that another could be matched with, and what holds that back.
-fn push_partner(out: &mut String, partner: (CallId, Option<CallId>)) -> Result<(), AllocError>
-    ensures { OnOk result (string_bytes out.new ≡ string_bytes out.old ++ spec.partner_text partner) }
-{
-    let (call, holder) = partner;
-    write!(out, ",\"{call}")?;
-    push_holder(out, holder)?;
-    out.push_str("\"")
+impl Model for PartnerList {
+    ghost use Rattle.std.specs.Prelude.{List, Option};
+    ghost use Rattle.mpd_model.specs.declared.step.CallId.{CallId};
+
+    ghost Value = { List (CallId × Option CallId) };
+
+    ghost view = { λ l. l.items.items };
 }
 
-/// Adds such calls.
-fn push_all_partners(
-    out: &mut String,
-    partners: &[(CallId, Option<CallId>)],
-) -> Result<(), AllocError>
-    ensures { OnOk result (string_bytes out.new ≡ string_bytes out.old ++ flat_map spec.partner_text partners.now) }
-{
-    for partner in partners {
-        push_partner(out, *partner)?;
-    }
-    Ok(())
+/// What a send or a receive that is waited for comes to.
+#[derive(Drop)]
+pub enum Prospect {
+    Complete,
+    /// It could be matched with these.
+    Fits(PartnerList),
 }
 
-/// Adds that a call is complete, or what it could be matched with.
-fn push_partners(core: &Core<'_>, out: &mut String, call: CallId) -> Result<(), AllocError>
-    ensures { OnOk result (string_bytes out.new ≡ string_bytes out.old ++ spec.partners_text core.now.world.board call) }
+/// A send or a receive that is waited for.
+#[derive(Drop)]
+pub struct Awaited {
+    pub call: CallId,
+    pub prospect: Prospect,
+}
+
+/// Those that are waited for, as contracts see them.
+#[derive(Drop)]
+pub struct AwaitedList {
+    pub items: Vec<Awaited>,
+}
+
+impl Model for AwaitedList {
+    ghost use Rattle.std.specs.Prelude.{List};
+    ghost use Rattle.mpd_page.specs.declared.reasons.Awaited.{Awaited};
+    ghost use Rattle.mpd_page.specs.ReasonCodes.{awaited_code};
+
+    ghost Value = { List Awaited };
+
+    ghost coded = { awaited_code };
+
+    ghost view = { λ l. l.items.items };
+}
+
+/// Ranks, as contracts see them.
+#[derive(Drop)]
+pub struct RankList {
+    pub items: Vec<usize>,
+}
+
+impl Model for RankList {
+    ghost use Rattle.std.specs.Prelude.{List, ℕ};
+
+    ghost Value = { List ℕ };
+
+    ghost view = { λ l. l.items.items };
+}
+
+/// Why a rank waits.
+#[derive(Drop)]
+pub enum Reason {
+    /// It doesn't wait.
+    NoWait,
+    /// For these ranks, which aren't at a barrier.
+    AtBarrier(RankList),
+    /// For these sends and receives.
+    For(AwaitedList),
+}
+
+/// That a call is complete, or what it could be matched with.
+fn prospect_of(alloc: Global, core: &Core<'_>, call: CallId) -> Result<Prospect, AllocError>
+    ensures { IfOk result (λ p. p ≡ spec.prospect core.now.world.board call) }
 {
     if core.board().is_done(call) {
-        return out.push_str(",\"complete\"");
+        return Ok(Prospect::Complete);
     }
-    let why = core.board().why(*out.allocator(), call)?;
-    push_all_partners(out, &why.partners)
+    let why = core.board().why(alloc, call)?;
+    Ok(Prospect::Fits(PartnerList {
+        items: why.partners,
+    }))
 }
 
-/// Adds a send or a receive that is waited for.
-fn push_entry(core: &Core<'_>, out: &mut String, call: CallId) -> Result<(), AllocError>
-    ensures { OnOk result (string_bytes out.new ≡ string_bytes out.old ++ spec.entry core.now.world.board call) }
+/// A send or a receive that is waited for.
+fn awaited_call(alloc: Global, core: &Core<'_>, call: CallId) -> Result<Awaited, AllocError>
+    ensures { IfOk result (λ a. a ≡ spec.awaited core.now.world.board call) }
 {
-    write!(out, "[\"{call}\"")?;
-    push_partners(core, out, call)?;
-    out.push_str("]")
+    let prospect = prospect_of(alloc, core, call)?;
+    Ok(Awaited { call, prospect })
 }
 
-/// Adds another one.
-fn push_entry_after(core: &Core<'_>, out: &mut String, call: CallId) -> Result<(), AllocError>
-    ensures { OnOk result (string_bytes out.new ≡ string_bytes out.old ++ spec.entry_after core.now.world.board call) }
+/// Those that are waited for.
+fn all_awaited(alloc: Global, core: &Core<'_>, calls: &[CallId]) -> Result<AwaitedList, AllocError>
+    ensures { IfOk result (λ list. list ≡ map (spec.awaited core.now.world.board) calls.now) }
 {
-    out.push_str(",")?;
-    push_entry(core, out, call)
-}
-
-/// Adds others.
-fn push_entries_after(core: &Core<'_>, out: &mut String, calls: &[CallId]) -> Result<(), AllocError>
-    ensures { OnOk result (string_bytes out.new ≡ string_bytes out.old ++ flat_map (spec.entry_after core.now.world.board) calls.now) }
-{
+    let mut items = Vec::new(alloc);
     for call in calls {
-        push_entry_after(core, out, *call)?;
+        let one = awaited_call(alloc, core, *call)?;
+        items.push(one)?;
     }
-    Ok(())
-}
-
-/// Adds the sends and receives that are waited for.
-fn push_entries(core: &Core<'_>, out: &mut String, calls: &[CallId]) -> Result<(), AllocError>
-    ensures { OnOk result (string_bytes out.new ≡ string_bytes out.old ++ spec.entries core.now.world.board calls.now) }
-{
-    let Some((first, rest)) = calls.split_first() else {
-        return Ok(());
-    };
-    push_entry(core, out, *first)?;
-    push_entries_after(core, out, rest)
+    Ok(AwaitedList { items })
 }
 
 /// Whether a rank is blocked on a barrier.
@@ -103,111 +127,70 @@ fn is_at_barrier(core: &Core<'_>, rank: usize) -> bool
     is_blocked(core, rank) && is_barrier(core.board().kind(core.board().last_call(rank)))
 }
 
-/// Adds a rank that isn't at a barrier.
-fn push_absent(core: &Core<'_>, out: &mut String, rank: usize) -> Result<(), AllocError>
-    ensures { OnOk result (string_bytes out.new ≡ string_bytes out.old ++ spec.absent core.now.world rank) }
+/// Adds a rank, if it is chosen.
+fn push_if(ranks: &mut Vec<usize>, rank: usize, is_chosen: bool) -> Result<(), AllocError>
+    ensures { OnOk result (ranks.new.items ≡ ranks.old.items ++ (if is_chosen then rank ∷ [] else [])) }
 {
-    if is_at_barrier(core, rank) {
-        return Ok(());
+    if is_chosen {
+        ranks.push(rank)?;
     }
-    write!(out, ",{rank}")
+    Ok(())
 }
 
-/// Adds all ranks that aren't.
-fn push_all_absent(core: &Core<'_>, out: &mut String) -> Result<(), AllocError>
-    ensures { OnOk result (string_bytes out.new ≡ string_bytes out.old ++ flat_map (spec.absent core.now.world) (rank_numbers core.now.world.board)) }
+/// The ranks that aren't at a barrier.
+fn absent(alloc: Global, core: &Core<'_>) -> Result<RankList, AllocError>
+    ensures { IfOk result (λ list. list ≡ absent_ranks core.now.world) }
 {
+    let mut items = Vec::new(alloc);
     let count = core.rank_count();
     for rank in 0..count {
-        push_absent(core, out, rank)?;
+        push_if(&mut items, rank, !is_at_barrier(core, rank))?;
     }
-    Ok(())
+    Ok(RankList { items })
 }
 
-/// Adds a barrier.
-fn push_barrier(core: &Core<'_>, out: &mut String) -> Result<(), AllocError>
-    ensures { OnOk result (string_bytes out.new ≡ string_bytes out.old ++ spec.barrier_entry core.now.world) }
-{
-    out.push_str("[\"barrier\"")?;
-    push_all_absent(core, out)?;
-    out.push_str("]")
-}
-
-/// Adds what a wait or a waitany is for.
-fn push_requests(
+/// What a wait or a waitany is for.
+fn requested_by(
+    alloc: Global,
     core: &Core<'_>,
-    out: &mut String,
     call: CallId,
-    kind: Option<CallKind>,
-) -> Result<(), AllocError>
-    ensures { OnOk result (string_bytes out.new ≡ string_bytes out.old ++ spec.entries core.now.world.board (requested core.now.world call.rank kind)) }
+    kind: CallKind,
+) -> Result<AwaitedList, AllocError>
+    ensures { IfOk result (λ list. list ≡ map (spec.awaited core.now.world.board) (requested core.now.world call.rank (Some kind))) }
 {
-    let calls = requests(*out.allocator(), core, call.rank, kind)?;
-    push_entries(core, out, &calls)
+    let calls = requests(alloc, core, call.rank, Some(kind))?;
+    all_awaited(alloc, core, &calls)
 }
 
-/// Adds the call that a rank waits in, or what that is for.
-fn push_waited(core: &Core<'_>, out: &mut String, call: CallId) -> Result<(), AllocError>
-    ensures { OnOk result (string_bytes out.new ≡ string_bytes out.old ++ spec.waited core.now.world call) }
+/// The call that a rank waits in, or what that is for.
+fn waited(alloc: Global, core: &Core<'_>, call: CallId) -> Result<Reason, AllocError>
+    ensures { IfOk result (λ r. r ≡ spec.waited core.now.world call) }
 {
-    let kind = core.board().kind(call);
-    match kind {
-        None => Ok(()),
-        Some(CallKind::Send(_)) | Some(CallKind::Recv(_)) => push_entry(core, out, call),
-        Some(CallKind::Wait(_)) | Some(CallKind::Waitany(_)) => {
-            push_requests(core, out, call, kind)
+    match core.board().kind(call) {
+        None => Ok(Reason::For(AwaitedList {
+            items: Vec::new(alloc),
+        })),
+        Some(CallKind::Send(_)) | Some(CallKind::Recv(_)) => {
+            Ok(Reason::For(all_awaited(alloc, core, &[call])?))
         }
-        Some(CallKind::Barrier) => push_barrier(core, out),
+        Some(CallKind::Wait(wait)) => {
+            let list = requested_by(alloc, core, call, CallKind::Wait(wait))?;
+            Ok(Reason::For(list))
+        }
+        Some(CallKind::Waitany(wait)) => {
+            let list = requested_by(alloc, core, call, CallKind::Waitany(wait))?;
+            Ok(Reason::For(list))
+        }
+        Some(CallKind::Barrier) => Ok(Reason::AtBarrier(absent(alloc, core)?)),
     }
 }
 
-/// Why a rank waits.
-pub(crate) fn reason(alloc: Global, core: &Core<'_>, rank: usize) -> Result<String, AllocError>
-    ensures { IfOk result (λ t. string_bytes t ≡ spec.reason core.now.world rank) }
-{
-    let mut text = String::new(alloc);
-    push_reason(core, &mut text, rank)?;
-    Ok(text)
-}
-
-/// Adds why a rank waits, or `null` of one that doesn't.
-fn push_reason(core: &Core<'_>, out: &mut String, rank: usize) -> Result<(), AllocError>
-    ensures { OnOk result (string_bytes out.new ≡ string_bytes out.old ++ spec.reason core.now.world rank) }
+/// Why a rank waits, if it does.
+pub(crate) fn reason_of(alloc: Global, core: &Core<'_>, rank: usize) -> Result<Reason, AllocError>
+    ensures { IfOk result (λ r. r ≡ spec.reason core.now.world rank) }
 {
     if !is_blocked(core, rank) {
-        return out.push_str("null");
+        return Ok(Reason::NoWait);
     }
-    out.push_str("[")?;
-    push_waited(core, out, core.board().last_call(rank))?;
-    out.push_str("]")
-}
-
-/// Adds why a rank waits, if that is another reason than it was.
-fn push_reason_change(
-    before: &Core<'_>,
-    after: &Core<'_>,
-    out: &mut String,
-    rank: usize,
-) -> Result<(), AllocError>
-    ensures { OnOk result (string_bytes out.new ≡ string_bytes out.old ++ spec.reason_entry before.now.world after.now.world rank) }
-{
-    let alloc = *out.allocator();
-    let was = reason(alloc, before, rank)?;
-    let now = reason(alloc, after, rank)?;
-    push_other(out, rank, &was, &now)
-}
-
-/// Adds all such reasons.
-pub(crate) fn push_reasons(
-    before: &Core<'_>,
-    after: &Core<'_>,
-    out: &mut String,
-) -> Result<(), AllocError>
-    ensures { OnOk result (string_bytes out.new ≡ string_bytes out.old ++ spec.reasons_changed before.now.world after.now.world) }
-{
-    let count = after.rank_count();
-    for rank in 0..count {
-        push_reason_change(before, after, out, rank)?;
-    }
-    Ok(())
+    waited(alloc, core, core.board().last_call(rank))
 }

@@ -142,7 +142,7 @@ function goNext(holds) {\n\
 \x20 go(d < 0 ? last() : d);\n\
 }\n\
 // Whether a step is one of rank p, as that of all ranks is; of no rank in particular each step is one.\n\
-const isOf = (fact, p) => p === undefined || fact.rank === undefined || fact.rank === p || fact.kind === 'match' && two(fact.send)[0] === p;\n\
+const isOf = (fact, p) => p === undefined || fact.rank === undefined || fact.rank === p || fact.kind === 'match' && fact.send[0] === p;\n\
 // Ranks so that one stands next to the one that it waits for: a cycle stands in its order.\n\
 function inOrder(ranks, edges) {\n\
 \x20 const found = [];\n\
@@ -163,17 +163,17 @@ pub const TAIL_0: &str = "\
 <script>\n\
 'use strict';\n\
 // A page of recorded runs. The data stands in the element `run`; docs/PAGES.md tells its fields. Nothing is fetched.\n\
-const D = JSON.parse(document.getElementById('run').textContent);\n\
+const DATA = JSON.parse(document.getElementById('run').textContent), D = DATA && DATA.run;\n\
 const el = id => document.getElementById(id);\n\
 const esc = text => String(text).replace(/[&<>\"]/g, sign => `&#${sign.charCodeAt(0)};`);\n\
 \n\
 // ---- the tree of states\n\
-const N = D ? D.ranks : 0, nodes = D ? D.nodes : [], ends = D ? D.ends : [];\n\
+const N = D ? D.ranks : 0, nodes = D ? DATA.nodes : [], ends = D ? DATA.ends : [];\n\
 const parent = i => nodes[i].p === undefined ? i - 1 : nodes[i].p;\n\
 const kids = nodes.map(() => []), under = nodes.map(() => []); // of each state those a step later, and the ends that it leads to\n\
 const endAt = new Map(ends.map((end, e) => [end.node, e]));\n\
 const isChoice = i => (nodes[i].k || []).length > 1;\n\
-const taken = (i, c) => kids[i].find(j => nodes[j].s === nodes[i].k[c]); // the state after candidate c; undefined if it isn't recorded\n\
+const taken = (i, c) => kids[i].find(j => nodes[j].n === c); // the state after candidate c; undefined if it isn't recorded\n\
 nodes.forEach((_, i) => i && kids[parent(i)].push(i));\n\
 ends.forEach((end, e) => { for (const i of pathTo(end.node)) under[i].push(e); });\n\
 \n\
@@ -185,7 +185,7 @@ function pathTo(i) {\n\
 \n\
 // ---- a state, by the changes that lead to it\n\
 const cells = names => names.reduce((sum, [, size]) => sum + (size === null ? 1 : size), 0);\n\
-const two = call => call.split('.').map(Number);\n\
+const idOf = ([p, i]) => `${p}.${i}`; // the name of a call, which is its rank and its number there\n\
 \n\
 function blank() {\n\
 \x20 const each = make => Array.from({ length: N }, make);\n\
@@ -199,18 +199,24 @@ function apply(s, node) {\n\
 \x20 for (const [p, cell, call] of node.h || []) { s.requests[p][cell] = call; s.changed.add(`h${p}.${cell}`); }\n\
 \x20 for (const [p, value] of node.o || []) { s.changed.add(`o${p}.${s.printed[p].push(value) - 1}`); }\n\
 \x20 for (const [p, why] of node.w || []) s.why[p] = why;\n\
-\x20 const [kind, first, second] = node.s.split(' ');\n\
-\x20 if (node.c) s.changed.add(`c${first}.${s.calls[+first].push({ line: node.c[0], text: node.c[1] }) - 1}`);\n\
+\x20 const [kind, first, second] = node.s || [];\n\
+\x20 if (node.c) s.changed.add(`c${first}.${s.calls[first].push({ ...node.c }) - 1}`);\n\
 \x20 if (kind === 'match') { callOf(s, first).partner = second; callOf(s, second).partner = first; }\n\
 }\n\
-const callOf = (s, id) => { const [p, i] = two(id); return s.calls[p][i]; };\n\
-// The text of a call of rank p, with the call that a wait is for, and the name of a waitany's array: `wait for 1.0`, `waitany r`.\n\
+const callOf = (s, [p, i]) => s.calls[p][i];\n\
+const SENDS = ['send', 'isend', 'ssend', 'issend'], RECEIVES = ['recv', 'irecv'];\n\
+const isSend = call => SENDS.includes(call.kind), isReceive = call => RECEIVES.includes(call.kind);\n\
+// A call of rank p in words, with the call that a wait is for, and the name of a waitany's array: `wait for 1.0`, `waitany r`.\n\
 const handleNames = D ? D.handles.flatMap(([name, size]) => Array(size === null ? 1 : size).fill(name)) : [];\n\
-const named = (text, p) => text.replace(/^wait (\\d+)/, (_, i) => `wait for ${p}.${i}`).replace(/^waitany (\\d+) \\d+/, (_, i) => `waitany ${handleNames[i]}`);\n\
-const isSend = call => /^i?s?send/.test(call.text), isReceive = call => /^i?recv/.test(call.text);\n\
-const target = call => +call.text.split(' ')[2]; // the rank that a send goes to\n\
-const message = call => { const w = call.text.split(' '); return `value ${w[6]}, tag ${w[4]}`; };\n\
-const calledAt = (s, id) => `line ${callOf(s, id).line}, ${esc(named(callOf(s, id).text, two(id)[0]))} <span class=\"soft\">(${id})</span>`;\n\
+const any = field => field === undefined ? 'any' : field, wanted = call => `from ${any(call.from)} tag ${any(call.tag)}`;\n\
+function words(call, p) {\n\
+\x20 if (isSend(call)) return `${call.kind} to ${call.to} tag ${call.tag} value ${call.value}${call.buffered ? ' buffered' : ''}`;\n\
+\x20 if (isReceive(call)) return `${call.kind} ${wanted(call)}`;\n\
+\x20 if (call.kind === 'wait') return call.for === undefined ? 'wait none' : `wait for ${p}.${call.for}`;\n\
+\x20 return call.kind === 'waitany' ? `waitany ${handleNames[call.first]}${call.none ? ' none' : ''}` : call.kind;\n\
+}\n\
+const message = call => `value ${call.value}, tag ${call.tag}`;\n\
+const calledAt = (s, id) => `line ${callOf(s, id).line}, ${esc(words(callOf(s, id), id[0]))} <span class=\"soft\">(${idOf(id)})</span>`;\n\
 \n\
 function stateOf(path) {\n\
 \x20 const s = blank();\n\
@@ -220,30 +226,29 @@ function stateOf(path) {\n\
 \n\
 // What a step is about, by the state before it: its kind, its rank, its lines, its calls.\n\
 function factOf(s, node) {\n\
-\x20 const [kind, first, second] = node.s.split(' '), fact = { kind, lines: [] };\n\
-\x20 if (kind === 'match') return { kind, send: first, receive: second, rank: two(second)[0], lines: [callOf(s, first).line, callOf(s, second).line] };\n\
-\x20 if (kind === 'release') return { kind, lines: s.place.map(place => place[0]) };\n\
-\x20 fact.rank = +first;\n\
-\x20 fact.lines = [s.place[fact.rank][0]];\n\
-\x20 if (node.c) Object.assign(fact, { call: `${first}.${s.calls[fact.rank].length}`, text: node.c[1], line: node.c[0] });\n";
+\x20 const [kind, first, second] = node.s, fact = { kind, lines: [] };\n";
 
 /// What stands after the data: part 2 of 8.
 pub const TAIL_1: &str = "\
-\x20 if (kind === 'wakeany') fact.by = requestOf(s, fact.rank, +second);\n\
+\x20 if (kind === 'match') return { kind, send: first, receive: second, rank: second[0], lines: [callOf(s, first).line, callOf(s, second).line] };\n\
+\x20 if (kind === 'release') return { kind, lines: s.place.map(place => place[0]) };\n\
+\x20 fact.rank = first;\n\
+\x20 fact.lines = [s.place[first][0]];\n\
+\x20 if (node.c) Object.assign(fact, { call: node.c, id: idOf([first, s.calls[first].length]) });\n\
+\x20 if (kind === 'wakeany') fact.by = requestOf(s, first, second);\n\
 \x20 return fact;\n\
 }\n\
 // The call of request i of the waitany in which a rank waits.\n\
 function requestOf(s, p, i) {\n\
-\x20 const first = +s.calls[p][s.calls[p].length - 1].text.split(' ')[1];\n\
-\x20 return `${p}.${s.requests[p][first + i]}`;\n\
+\x20 return [p, s.requests[p][s.calls[p][s.calls[p].length - 1].first + i]];\n\
 }\n\
 const shows = fact => fact.call !== undefined || fact.kind === 'match' || fact.kind === 'release';\n\
 \n\
 function inWords(fact, s) {\n\
 \x20 const p = fact.rank, code = text => `<code>${esc(text)}</code>`;\n\
-\x20 if (fact.call) return `rank ${p} runs line ${fact.line}: ${code(named(fact.text, p))} (${fact.call})`;\n\
+\x20 if (fact.call) return `rank ${p} runs line ${fact.call.line}: ${code(words(fact.call, p))} (${fact.id})`;\n\
 \x20 if (fact.kind === 'local') return `rank ${p} runs line ${fact.lines[0]}: ${code((D.script[fact.lines[0] - 1] || '').trim())}`;\n\
-\x20 if (fact.kind === 'match') return `rank ${p}, line ${fact.lines[1]}, takes the message of rank ${two(fact.send)[0]}, line ${fact.lines[0]}: <b>${message(callOf(s, fact.send))}</b>`;\n\
+\x20 if (fact.kind === 'match') return `rank ${p}, line ${fact.lines[1]}, takes the message of rank ${fact.send[0]}, line ${fact.lines[0]}: <b>${message(callOf(s, fact.send))}</b>`;\n\
 \x20 if (fact.kind === 'release') return 'all ranks leave the barrier';\n\
 \x20 return `rank ${p} goes on from line ${fact.lines[0]}` + (fact.by ? ` by ${calledAt(s, fact.by)}` : ': its call is complete');\n\
 }\n\
@@ -274,15 +279,15 @@ function go(depth) {\n\
 // The step that decides: of this run, or else of another that goes the same way up to there.\n\
 function deciding() {\n\
 \x20 for (const end of [ends[endOf()], ...ends])\n\
-\x20   if (end.decided && end.decided[0] !== null && pathTo(end.node)[end.decided[0]] === run[end.decided[0]]) return end.decided;\n\
+\x20   if (end.decided && end.decided.depth !== null && pathTo(end.node)[end.decided.depth] === run[end.decided.depth]) return end.decided;\n\
 \x20 return null;\n\
 }\n\
 const choices = () => run.map((i, d) => isChoice(i) ? d : -1).filter(d => d >= 0);\n\
 \n\
 // ---- the script\n\
 const round = p => p > 7 ? ' round' : '', colour = p => `style=\"--c:var(--r${p % 8})\"`;\n\
-const doing = place => place[1] === undefined ? '' : place[1].split(' ')[0];\n\
-const badge = (s, p) => `<span class=\"badge ${doing(s.place[p])}${round(p)}\" ${colour(p)} title=\"rank ${p} ${s.place[p][1] || 'can run'}\">${p}</span>`;\n\
+const doing = ([, how]) => how || '';\n\
+const badge = (s, p) => `<span class=\"badge ${doing(s.place[p])}${round(p)}\" ${colour(p)} title=\"rank ${p} ${s.place[p].slice(1).join(' ') || 'can run'}\">${p}</span>`;\n\
 \n\
 function source() {\n\
 \x20 const at = {}, now = new Set(k ? facts[k].lines : []);\n\
@@ -296,16 +301,16 @@ function source() {\n\
 \x20 if (line) line.scrollIntoView({ block: 'nearest' });\n\
 }\n\
 \n\
-// ---- lanes: time goes to the right, a lane for each rank\n\
+// ---- lanes: time goes to the right, a lane for each rank\n";
+
+/// What stands after the data: part 3 of 8.
+pub const TAIL_2: &str = "\
 const TOP = 36, NAME = N > 10 ? 80 : 64;\n\
 let xs = [], gap = 60, wide = 60, unit = 1;\n\
 \n\
 // The place of each step: those that show something get more room.\n\
 function layout() {\n\
-\x20 unit = parseFloat(getComputedStyle(document.documentElement).fontSize) / 16;\n";
-
-/// What stands after the data: part 3 of 8.
-pub const TAIL_2: &str = "\
+\x20 unit = parseFloat(getComputedStyle(document.documentElement).fontSize) / 16;\n\
 \x20 const room = Math.max(300, el('lanes').clientWidth / unit - NAME - 60), many = facts.slice(1).filter(shows).length, few = last() - many;\n\
 \x20 const small = Math.min(14, Math.max(7, room / (many * 3.5 + few + 1)));\n\
 \x20 wide = Math.min(78, Math.max(34, (room - few * small) / Math.max(1, many)));\n\
@@ -327,8 +332,8 @@ function arrow(x1, y1, x2, y2) {\n\
 }\n\
 function glyph(x, y, word) {\n\
 \x20 const r = gap > 24 ? 6 : 4.5;\n\
-\x20 if (/send/.test(word)) return `<circle cx=\"${x}\" cy=\"${y}\" r=\"${r}\" class=\"full\"/>`;\n\
-\x20 if (/recv/.test(word)) return `<circle cx=\"${x}\" cy=\"${y}\" r=\"${r}\" class=\"open\"/>`;\n\
+\x20 if (SENDS.includes(word)) return `<circle cx=\"${x}\" cy=\"${y}\" r=\"${r}\" class=\"full\"/>`;\n\
+\x20 if (RECEIVES.includes(word)) return `<circle cx=\"${x}\" cy=\"${y}\" r=\"${r}\" class=\"open\"/>`;\n\
 \x20 if (word === 'barrier') return `<rect x=\"${x - 3}\" y=\"${y - gap * .3}\" width=\"6\" height=\"${gap * .6}\" class=\"full\"/>`;\n\
 \x20 return `<path d=\"${word === 'wait' ? `M${x - r} ${y - r}h${2 * r}v${2 * r}h${-2 * r}z` : `M${x - r - 2} ${y}l${r + 2} ${-r - 2}l${r + 2} ${r + 2}l${-r - 2} ${r + 2}z`}\" class=\"open\"/>`;\n\
 }\n\
@@ -346,19 +351,19 @@ function lanes() {\n\
 \x20   const fact = facts[d], x = xs[d], p = fact.rank, y = laneY(p), isNew = d === k;\n\
 \x20   const halo = isNew && p !== undefined && fact.kind !== 'match' ? `<circle cx=\"${x}\" cy=\"${y}\" r=\"${gap > 24 ? 11 : 8}\" class=\"halo\"/>` : '';\n\
 \x20   if (fact.call) {\n\
-\x20     const word = fact.text.split(' ')[0], isUp = /send/.test(word) && target(fact) < p;\n\
-\x20     issued[fact.call] = { x, p, text: fact.text, to: null };\n\
-\x20     if (seen(x, x)) over.push(svgGroup(p, `line ${fact.line}, ${fact.call} ${named(fact.text, p)}`, halo + glyph(x, y, word) + (large ? svgText(x, isUp ? y + 21 : y - (word === 'barrier' ? gap * .3 + 4 : 11), wide > 50 ? `${fact.line} ${word}` : fact.line, isNew ? 'mid bold' : 'mid') : ''), isNew, d));\n\
+\x20     const word = fact.call.kind, isUp = isSend(fact.call) && fact.call.to < p;\n\
+\x20     issued[fact.id] = { call: fact.call, x, p, end: null };\n\
+\x20     if (seen(x, x)) over.push(svgGroup(p, `line ${fact.call.line}, ${fact.id} ${words(fact.call, p)}`, halo + glyph(x, y, word) + (large ? svgText(x, isUp ? y + 21 : y - (word === 'barrier' ? gap * .3 + 4 : 11), wide > 50 ? `${fact.call.line} ${word}` : fact.call.line, isNew ? 'mid bold' : 'mid') : ''), isNew, d));\n\
 \x20     if ((nodes[run[d]].d || []).some(([q, , how]) => q === p && how === 'blocked')) since[p] = x;\n\
 \x20   } else if (fact.kind === 'match') {\n\
-\x20     const send = issued[fact.send], value = send.text.split(' ')[6];\n\
-\x20     send.to = issued[fact.receive].to = x;\n\
-\x20     if (seen(send.x, x)) {\n\
-\x20       const lx = send.x + (x - send.x) * .5, ly = laneY(send.p) + (y - laneY(send.p)) * .5 + (send.p === p ? gap * .5 : 0), w = 8 * value.length + 8;\n";
+\x20     const send = issued[idOf(fact.send)], value = send.call.value;\n\
+\x20     send.end = issued[idOf(fact.receive)].end = x;\n";
 
 /// What stands after the data: part 4 of 8.
 pub const TAIL_3: &str = "\
-\x20       over.push(svgGroup(send.p, `${fact.send} to ${fact.receive}: ${message(send)}`, arrow(send.x, laneY(send.p), x, y) + `<rect x=\"${lx - w / 2}\" y=\"${ly - 8}\" width=\"${w}\" height=\"16\" rx=\"4\" class=\"open\" style=\"stroke-width:1\"/>` + svgText(lx, ly + 4, value, 'mid bold'), isNew, d));\n\
+\x20     if (seen(send.x, x)) {\n\
+\x20       const lx = send.x + (x - send.x) * .5, ly = laneY(send.p) + (y - laneY(send.p)) * .5 + (send.p === p ? gap * .5 : 0), w = 8 * value.length + 8;\n\
+\x20       over.push(svgGroup(send.p, `${idOf(fact.send)} to ${idOf(fact.receive)}: ${message(send.call)}`, arrow(send.x, laneY(send.p), x, y) + `<rect x=\"${lx - w / 2}\" y=\"${ly - 8}\" width=\"${w}\" height=\"16\" rx=\"4\" class=\"open\" style=\"stroke-width:1\"/>` + svgText(lx, ly + 4, value, 'mid bold'), isNew, d));\n\
 \x20     }\n\
 \x20   } else if (fact.kind === 'release') {\n\
 \x20     if (seen(x, x)) over.push(`<g><title>release: all ranks leave the barrier</title>${svgLine(x, laneY(0) - 12, x, laneY(N - 1) + 12, 'bar')}</g>`);\n\
@@ -370,22 +375,22 @@ pub const TAIL_3: &str = "\
 \x20 }\n\
 \x20 for (let p = 0; p < N; p++) { waits(p, now); under.push(svgGroup(p, `lane of rank ${p}`, svgLine(NAME, laneY(p), stops[p], laneY(p), 'lane' + round(p)))); }\n\
 \x20 const posted = Array(N).fill(0);\n\
-\x20 for (const call of Object.values(issued)) {\n\
-\x20   const y = laneY(call.p), to = call.to === null ? now : call.to;\n\
-\x20   if (isReceive(call) && seen(call.x, to)) {\n\
-\x20     const low = y + (gap > 24 ? 9 + 4 * (posted[call.p]++ % 3) : 6);\n\
-\x20     under.push(svgGroup(call.p, `posted: ${call.text}`, svgLine(call.x, low, to, low, 'posted')));\n\
+\x20 for (const { call, x, p, end } of Object.values(issued)) {\n\
+\x20   const y = laneY(p), to = end === null ? now : end;\n\
+\x20   if (isReceive(call) && seen(x, to)) {\n\
+\x20     const low = y + (gap > 24 ? 9 + 4 * (posted[p]++ % 3) : 6);\n\
+\x20     under.push(svgGroup(p, `posted: ${words(call, p)}`, svgLine(x, low, to, low, 'posted')));\n\
 \x20   }\n\
-\x20   if (isSend(call) && call.to === null && seen(call.x, call.x)) {\n\
-\x20     const dy = (target(call) > call.p ? 1 : -1) * Math.min(20, gap * .4);\n\
-\x20     over.push(svgGroup(call.p, `${call.text}: not received yet`, svgLine(call.x, y, call.x + 14, y + dy, 'posted') + `<circle cx=\"${call.x + 14}\" cy=\"${y + dy}\" r=\"4\" class=\"open\"/>`));\n\
+\x20   if (isSend(call) && end === null && seen(x, x)) {\n\
+\x20     const dy = (call.to > p ? 1 : -1) * Math.min(20, gap * .4);\n\
+\x20     over.push(svgGroup(p, `${words(call, p)}: not received yet`, svgLine(x, y, x + 14, y + dy, 'posted') + `<circle cx=\"${x + 14}\" cy=\"${y + dy}\" r=\"4\" class=\"open\"/>`));\n\
 \x20   }\n\
 \x20 }\n\
 \x20 for (let p = 0; p < N; p++) {\n\
 \x20   const y = laneY(p), how = doing(S.place[p]), x = stops[p];\n\
 \x20   if (how === 'ended') over.push(svgGroup(p, `rank ${p} has ended`, svgLine(x + 2, y - 9, x + 2, y + 9, 'lane', 'style=\"stroke-width:4\"')));\n\
 \x20   if (how === 'trapped') over.push(`<g><title>rank ${p} is trapped</title><path d=\"M${x - 7} ${y - 7}l14 14m0 -14l-14 14\" style=\"stroke:var(--bad);stroke-width:4\"/></g>`);\n\
-\x20   if (how === 'blocked' && k === last() && !covered && ends[endOf()].outcome !== 'cut') over.push(`<g><title>rank ${p} is blocked</title><path d=\"M${now - 4} ${y - 9}h8l5 5v8l-5 5h-8l-5 -5v-8z\" class=\"bad\"/><text x=\"${now}\" y=\"${y + 4.5}\" class=\"mid bold\" style=\"fill:var(--paper)\">!</text></g>`);\n\
+\x20   if (how === 'blocked' && k === last() && !covered && ends[endOf()].ends !== 'cut') over.push(`<g><title>rank ${p} is blocked</title><path d=\"M${now - 4} ${y - 9}h8l5 5v8l-5 5h-8l-5 -5v-8z\" class=\"bad\"/><text x=\"${now}\" y=\"${y + 4.5}\" class=\"mid bold\" style=\"fill:var(--paper)\">!</text></g>`);\n\
 \x20   names.push(`<g ${colour(p)}>${svgText(left + 6, y + 5, `rank ${p}`, 'rank')}</g>`);\n\
 \x20 }\n\
 \x20 const marks = choices().filter(d => seen(xs[d], xs[d])).map(d => `<g data-step=\"${d}\"><title>a choice of ${nodes[run[d]].k.length}</title>${svgLine(xs[d], 30, xs[d], height, 'hand', 'style=\"stroke:var(--choice);stroke-opacity:.5\"')}<path d=\"M${xs[d]} 15l7 7l-7 7l-7 -7z\" class=\"dia ${d === k ? 'here' : ''}\"/></g>`);\n\
@@ -400,22 +405,21 @@ function follow() {\n\
 }\n\
 \n\
 // ---- the choice, and the step that decides\n\
-const SIGN = { done: '\\u2714', leftovers: '\\u25b2', cut: '\\u2026', deadlock: '\\u2716', trap: '\\u2716' };\n\
-const wordOf = outcome => outcome.split(' ')[0];\n\
-const kindOf = outcome => /^(deadlock|trap)/.test(outcome) ? 'bad' : wordOf(outcome) === 'done' ? 'good' : 'warn';\n";
+const SIGN = { done: '\\u2714', leftovers: '\\u25b2', cut: '\\u2026', deadlock: '\\u2716', trap: '\\u2716' };\n";
 
 /// What stands after the data: part 5 of 8.
 pub const TAIL_4: &str = "\
-const sign = outcome => covered ? '?' : `<b class=\"${kindOf(outcome)}\">${SIGN[wordOf(outcome)]}</b> ${wordOf(outcome)}`;\n\
+const kindOf = how => how === 'deadlock' || how === 'trap' ? 'bad' : how === 'done' ? 'good' : 'warn';\n\
+const sign = how => covered ? '?' : `<b class=\"${kindOf(how)}\">${SIGN[how]}</b> ${how}`;\n\
 \n\
 function howEnds(list) {\n\
 \x20 const counts = {};\n\
-\x20 for (const e of list) { const s = sign(ends[e].outcome); counts[s] = (counts[s] || 0) + 1; }\n\
+\x20 for (const e of list) { const s = sign(ends[e].ends); counts[s] = (counts[s] || 0) + 1; }\n\
 \x20 return Object.entries(counts).map(([s, count]) => covered ? s : (count > 1 ? `${count} \\u00d7 ` : '') + s).join(' &ensp;');\n\
 }\n\
 function candidate(step) {\n\
 \x20 const fact = factOf(S, { s: step }), p = fact.rank;\n\
-\x20 if (fact.kind === 'match') return `message of <b>rank ${two(fact.send)[0]}</b>, line ${fact.lines[0]}: <b>${message(callOf(S, fact.send))}</b> \\u2192 rank ${p}, line ${fact.lines[1]}`;\n\
+\x20 if (fact.kind === 'match') return `message of <b>rank ${fact.send[0]}</b>, line ${fact.lines[0]}: <b>${message(callOf(S, fact.send))}</b> \\u2192 rank ${p}, line ${fact.lines[1]}`;\n\
 \x20 if (fact.kind === 'release') return 'all ranks leave the barrier';\n\
 \x20 if (fact.kind === 'local') return `rank ${p} runs line ${fact.lines[0]}`;\n\
 \x20 return `rank ${p}, line ${fact.lines[0]}, goes on` + (fact.by ? ` by ${calledAt(S, fact.by)}` + (callOf(S, fact.by).partner && isReceive(callOf(S, fact.by)) ? `: <b>${message(callOf(S, callOf(S, fact.by).partner))}</b>` : '') : '');\n\
@@ -427,12 +431,12 @@ function otherWay(c) {\n\
 \x20 return D.walk === 'words' ? 'not on this page' : `on another page: <code>mpdbg page ${esc(words.join(' '))}</code>`;\n\
 }\n\
 function choice() {\n\
-\x20 const i = run[k], box = el('choice'), steps = isChoice(i) ? nodes[i].k : [], found = covered ? null : deciding(), isDecided = found && found[0] === k;\n\
+\x20 const i = run[k], box = el('choice'), steps = isChoice(i) ? nodes[i].k : [], found = covered ? null : deciding(), isDecided = found && found.depth === k;\n\
 \x20 box.hidden = !steps.length && !isDecided;\n\
 \x20 box.innerHTML = (steps.length ? `<h3>\\u25c6 A choice: which of these ${steps.length} comes next?</h3>` : '') + steps.map((step, c) => {\n\
 \x20   const j = taken(i, c);\n\
 \x20   return `<button data-take=\"${c}\" class=\"${j !== undefined && j === run[k + 1] ? 'on' : ''}\" ${j === undefined ? 'disabled' : ''}><b>${c + 1}</b><span>${candidate(step)}</span><span>${j === undefined ? otherWay(c) : howEnds(under[j])}</span></button>`;\n\
-\x20 }).join('') + (isDecided ? `<p><b class=\"warn\">\\u25bc The step that decides:</b> ${esc(found[1].replace(/^decided at depth \\d+: /, ''))}</p>` : '');\n\
+\x20 }).join('') + (isDecided ? `<p><b class=\"warn\">\\u25bc</b> ${esc(found.said)}</p>` : '');\n\
 }\n\
 \n\
 // ---- the end of a run, and who waits for whom\n\
@@ -442,26 +446,23 @@ function told() {\n\
 \x20 const box = el('told'), end = k === last() ? ends[endOf()] : null;\n\
 \x20 box.hidden = !end;\n\
 \x20 if (!end) return;\n\
-\x20 box.className = 'box ' + (covered ? '' : kindOf(end.outcome));\n\
+\x20 box.className = 'box ' + (covered ? '' : kindOf(end.ends));\n\
 \x20 if (covered) { box.innerHTML = '<h3>The run ends here</h3><p>The key <b>h</b> shows how.</p>'; return; }\n\
-\x20 const lines = [...(end.told || []).map(line => line.slice(2)), ...end.lost || []], said = end.decided ? [end.decided[1] + (end.decided[0] === null ? '' : ' (key b)')] : [];\n\
+\x20 const lines = [...(end.told || []).map(line => line.slice(2)), ...end.lost || []], said = end.decided ? [end.decided.said + (end.decided.depth === null ? '' : ' (key b)')] : [];\n\
 \x20 const texts = [...lines, ...said].map(line => `<p style=\"margin-left:${line.search(/\\S/)}ch\">${esc(line.trim())}</p>`);\n\
-\x20 box.innerHTML = `<h3>${SIGN[wordOf(end.outcome)]} ${TITLE[wordOf(end.outcome)]}</h3><div class=\"told\"><div>${texts.join('')}</div>${waitGraph(lines)}</div>`;\n\
+\x20 box.innerHTML = `<h3>${SIGN[end.ends]} ${TITLE[end.ends]}</h3><div class=\"told\"><div>${texts.join('')}</div>${waitGraph(end.waits || [])}</div>`;\n\
 }\n\
-// The lines `rank 0 waits for rank 1 (ended)` as a graph.\n\
-function waitGraph(lines) {\n\
-\x20 const edges = lines.flatMap(line => {\n\
-\x20   const found = /^rank (\\d+) waits for (.*)$/.exec(line);\n\
-\x20   return found ? [...found[2].matchAll(/rank (\\d+)( \\(ended\\))?/g)].map(m => [+found[1], +m[1], !!m[2]]) : [];\n\
-\x20 });\n\
+// Who waits for whom, as a graph.\n\
+function waitGraph(waits) {\n\
+\x20 const edges = waits.map(wait => [wait.rank, wait.for, wait.ended]);\n\
 \x20 if (!edges.length) return '';\n\
 \x20 const ranks = inOrder([...new Set(edges.flatMap(([a, b]) => [a, b]))].sort((a, b) => a - b), edges), R = 26 + 6 * ranks.length, C = R + 30, at = {};\n\
 \x20 ranks.forEach((p, i) => { const turn = 2 * Math.PI * i / ranks.length - Math.PI / 2; at[p] = [C + R * Math.cos(turn), C + R * Math.sin(turn)]; });\n\
-\x20 const edge = ([a, b, isOver]) => {\n";
+\x20 const edge = ([a, b, isOver]) => {\n\
+\x20   const [x1, y1] = at[a], [x2, y2] = at[b], far = Math.hypot(x2 - x1, y2 - y1) || 1, ux = (x2 - x1) / far, uy = (y2 - y1) / far, off = edges.some(([c, d]) => c === b && d === a) ? 6 : 0;\n";
 
 /// What stands after the data: part 6 of 8.
 pub const TAIL_5: &str = "\
-\x20   const [x1, y1] = at[a], [x2, y2] = at[b], far = Math.hypot(x2 - x1, y2 - y1) || 1, ux = (x2 - x1) / far, uy = (y2 - y1) / far, off = edges.some(([c, d]) => c === b && d === a) ? 6 : 0;\n\
 \x20   if (a === b) return `<circle cx=\"${x1 + 15}\" cy=\"${y1 - 13}\" r=\"10\" class=\"arrow\" style=\"--c:var(--ink)\"/>`;\n\
 \x20   const px = x2 - 17 * ux - off * uy, py = y2 - 17 * uy + off * ux, tip = side => `${px - 9 * ux + side * 4.5 * uy} ${py - 9 * uy - side * 4.5 * ux}`;\n\
 \x20   return `<g style=\"--c:var(--ink)\">${svgLine(x1 + 15 * ux - off * uy, y1 + 15 * uy + off * ux, px, py, 'arrow', isOver ? 'stroke-dasharray=\"4 3\"' : '')}<path d=\"M${px} ${py}L${tip(1)}L${tip(-1)}z\" class=\"full\"/></g>`;\n\
@@ -486,40 +487,39 @@ function valuesOf(p, names, kind, show) {\n\
 \x20 }).join('');\n\
 }\n\
 function token(p, i, text, may) {\n\
-\x20 return `<span class=\"token code ${may.has(`${p}.${i}`) ? 'may' : ''}\" ${colour(p)} data-step=\"${facts.findIndex(fact => fact && fact.call === `${p}.${i}`)}\" title=\"line ${S.calls[p][i].line}, ${p}.${i} ${esc(S.calls[p][i].text)}\">${marked(`c${p}.${i}`, text)}</span>`;\n\
+\x20 return `<span class=\"token code ${may.has(`${p}.${i}`) ? 'may' : ''}\" ${colour(p)} data-step=\"${facts.findIndex(fact => fact && fact.id === `${p}.${i}`)}\" title=\"line ${S.calls[p][i].line}, ${p}.${i} ${esc(words(S.calls[p][i], p))}\">${marked(`c${p}.${i}`, text)}</span>`;\n\
 }\n\
 function request(p, cell) {\n\
 \x20 const call = S.calls[p][S.requests[p][cell]];\n\
-\x20 return call ? `${call.text.split(' ')[0]} line ${call.line}${call.partner ? ' \\u2714' : ''}` : '-';\n\
+\x20 return call ? `${call.kind} line ${call.line}${call.partner ? ' \\u2714' : ''}` : '-';\n\
 }\n\
 function stateText(p) {\n\
-\x20 const [line, word] = S.place[p], how = doing(S.place[p]);\n\
-\x20 return marked('d' + p, how === '' ? `at line ${line}` : how === 'ended' ? how : how === 'blocked' ? `waits, line ${line}` : `<b class=\"bad\">trap: ${word.slice(8)}</b>, line ${line}`);\n\
+\x20 const [line, how = '', trap] = S.place[p];\n\
+\x20 return marked('d' + p, how === '' ? `at line ${line}` : how === 'ended' ? how : how === 'blocked' ? `waits, line ${line}` : `<b class=\"bad\">trap: ${trap}</b>, line ${line}`);\n\
 }\n\
 function table() {\n\
-\x20 const may = new Set(isChoice(run[k]) ? nodes[run[k]].k.flatMap(step => step.split(' ').slice(1)) : []);\n\
+\x20 const may = new Set(isChoice(run[k]) ? nodes[run[k]].k.flatMap(([kind, ...calls]) => kind === 'match' ? calls.map(idOf) : []) : []);\n\
 \x20 const columns = [['rank', p => badge(S, p)], ['state', stateText], ['variables', p => valuesOf(p, D.vars, 'v', cell => S.values[p][cell]), D.vars.length],\n\
 \x20   ['requests', p => valuesOf(p, D.handles, 'h', cell => request(p, cell)), D.handles.length],\n\
-\x20   ['receives posted', p => S.calls[p].map((call, i) => isReceive(call) && !call.partner ? token(p, i, esc(call.text.replace(/^\\w+ /, '')), may) : '').join('')],\n\
-\x20   ['messages to it', p => S.calls.flatMap((list, q) => list.map((call, i) => isSend(call) && !call.partner && target(call) === p ? token(q, i, `from ${q}: ${message(call)}`, may) : '')).join('')],\n\
+\x20   ['receives posted', p => S.calls[p].map((call, i) => isReceive(call) && !call.partner ? token(p, i, wanted(call), may) : '').join('')],\n\
+\x20   ['messages to it', p => S.calls.flatMap((list, q) => list.map((call, i) => isSend(call) && !call.partner && call.to === p ? token(q, i, `from ${q}: ${message(call)}`, may) : '')).join('')],\n\
 \x20   ['printed', p => S.printed[p].map((value, i) => marked(`o${p}.${i}`, value)).join(' '), +nodes.some(node => node.o)],\n\
 \x20 ].filter(column => column[2] !== 0);\n\
 \x20 const rows = S.place.map((_, p) => `<tr>${columns.map(([, show]) => `<td>${show(p)}</td>`).join('')}</tr>` +\n\
 \x20   (S.why[p] ? `<tr class=\"why soft\"><td></td><td colspan=\"${columns.length - 1}\">${whyText(p)}</td></tr>` : ''));\n\
 \x20 el('table').innerHTML = `<caption>Ranks (what the last step changed is underlined)</caption><tr>${columns.map(([name]) => `<th scope=\"col\">${name}</th>`).join('')}</tr>${rows.join('')}`;\n\
-}\n";
+}\n\
+// Why a rank waits: for each call that it waits for, with what that can be matched.\n\
+function whyText(p) {\n";
 
 /// What stands after the data: part 7 of 8.
 pub const TAIL_6: &str = "\
-// Why a rank waits: for each call that it waits for, with what that can be matched.\n\
-function whyText(p) {\n\
-\x20 const calls = S.calls[p], own = `<code>${esc(named(calls[calls.length - 1].text, p))}</code>`, isEnd = k === last() && !covered && ends[endOf()].outcome !== 'cut';\n\
-\x20 const parts = S.why[p].map(([call, ...found]) => {\n\
-\x20   const name = two(call)[1] === calls.length - 1 || call === 'barrier' ? '' : `for ${calledAt(S, call)}: `;\n\
-\x20   if (call === 'barrier') return found.length ? `not there: ${found.map(q => `rank ${q}`).join(', ')}` : 'all ranks are there';\n\
-\x20   if (found[0] === 'complete') return `${name}<b>complete</b>`;\n\
-\x20   if (!found.length) return name + (isEnd ? 'nothing fits' : 'nothing that fits has come yet');\n\
-\x20   const texts = found.map(text => { const [other, by] = text.split(' '); return by ? `fits ${calledAt(S, other)}, but <b>held back</b> by ${calledAt(S, by)}` : `can be matched with ${calledAt(S, other)}`; });\n\
+\x20 const calls = S.calls[p], own = `<code>${esc(words(calls[calls.length - 1], p))}</code>`, isEnd = k === last() && !covered && ends[endOf()].ends !== 'cut', why = S.why[p];\n\
+\x20 const parts = why.absent ? [why.absent.length ? `not there: ${why.absent.map(q => `rank ${q}`).join(', ')}` : 'all ranks are there'] : why.map(({ call, complete, fits = [] }) => {\n\
+\x20   const name = call[1] === calls.length - 1 ? '' : `for ${calledAt(S, call)}: `;\n\
+\x20   if (complete) return `${name}<b>complete</b>`;\n\
+\x20   if (!fits.length) return name + (isEnd ? 'nothing fits' : 'nothing that fits has come yet');\n\
+\x20   const texts = fits.map(([other, by]) => by ? `fits ${calledAt(S, other)}, but <b>held back</b> by ${calledAt(S, by)}` : `can be matched with ${calledAt(S, other)}`);\n\
 \x20   return name + [...texts.slice(0, 3), ...(texts.length > 3 ? [`and with ${texts.length - 3} more`] : [])].join('<br>');\n\
 \x20 });\n\
 \x20 return [own, ...(parts.length ? parts : ['nothing to wait for'])].join(parts.length > 1 ? '<br>' : ' &ensp; ');\n\
@@ -556,29 +556,29 @@ function tree() {\n\
 \x20 for (const t of points) {\n\
 \x20   const end = endAt.get(t.node), isHere = run[k] === t.node ? 'here' : '';\n\
 \x20   if (end === undefined) { parts.push(`<g data-node=\"${t.node}\" role=\"button\" tabindex=\"0\"><title>a choice of ${nodes[t.node].k.length}</title><path d=\"M${X(t)} ${Y(t) - 8}l8 8l-8 8l-8 -8z\" class=\"dia ${isHere}\"/></g>`); continue; }\n\
-\x20   const outcome = ends[end].outcome, kind = covered ? '' : kindOf(outcome), isOn = end === endOf();\n\
+\x20   const { outcome, ends: how } = ends[end], kind = covered ? '' : kindOf(how), isOn = end === endOf();\n\
 \x20   const disc = kind === 'bad' ? `<rect x=\"${X(t) - 8}\" y=\"${Y(t) - 8}\" width=\"16\" height=\"16\" rx=\"2\" class=\"bad\"/>` : `<circle cx=\"${X(t)}\" cy=\"${Y(t)}\" r=\"8.5\" class=\"${kind}\"/>`;\n\
-\x20   parts.push(`<g data-end=\"${end}\" role=\"button\" tabindex=\"0\" style=\"cursor:pointer\"><title>run ${end + 1}${covered ? '' : `: ${outcome}`}</title>${disc}<text x=\"${X(t)}\" y=\"${Y(t) + 4.5}\" class=\"mid bold\" style=\"fill:var(--paper)\">${covered ? '?' : SIGN[wordOf(outcome)]}</text>${svgText(X(t) + 15, Y(t) + 4.5, esc(label(end)), isOn ? 'bold' : '')}</g>`);\n\
-\x20 }\n";
+\x20   parts.push(`<g data-end=\"${end}\" role=\"button\" tabindex=\"0\" style=\"cursor:pointer\"><title>run ${end + 1}${covered ? '' : `: ${outcome}`}</title>${disc}<text x=\"${X(t)}\" y=\"${Y(t) + 4.5}\" class=\"mid bold\" style=\"fill:var(--paper)\">${covered ? '?' : SIGN[how]}</text>${svgText(X(t) + 15, Y(t) + 4.5, esc(label(end)), isOn ? 'bold' : '')}</g>`);\n\
+\x20 }\n\
+\x20 el('tree').innerHTML = `<svg width=\"${(X({ deep }) + tail) * unit}\" height=\"${(rows * 23 + 8) * unit}\" viewBox=\"0 0 ${X({ deep }) + tail} ${rows * 23 + 8}\" role=\"group\"><title>Runs by their choices: ${ends.length}</title>${parts.join('')}</svg>` + (D.more ? '<p class=\"soft\" style=\"font-size:.85rem;padding:0 .7rem .3rem\">there are more runs than these</p>' : '');\n";
 
 /// What stands after the data: part 8 of 8.
 pub const TAIL_7: &str = "\
-\x20 el('tree').innerHTML = `<svg width=\"${(X({ deep }) + tail) * unit}\" height=\"${(rows * 23 + 8) * unit}\" viewBox=\"0 0 ${X({ deep }) + tail} ${rows * 23 + 8}\" role=\"group\"><title>Runs by their choices: ${ends.length}</title>${parts.join('')}</svg>` + (D.more ? '<p class=\"soft\" style=\"font-size:.85rem;padding:0 .7rem .3rem\">there are more runs than these</p>' : '');\n\
 \x20 const mine = points.find(t => endAt.get(t.node) === endOf()), box = el('tree'), y = Y(mine) * unit;\n\
 \x20 if (y < box.scrollTop || y > box.scrollTop + box.clientHeight - 15) box.scrollTop = y - box.clientHeight / 2;\n\
 \x20 box.scrollLeft = X(points.find(t => on.has(t.node) && run.indexOf(t.node) >= k)) * unit - box.clientWidth / 2;\n\
 }\n\
 function marks() {\n\
-\x20 const found = covered ? null : deciding(), at = (d, kind, text, title) => `<span class=\"${kind}\" data-step=\"${d}\" style=\"left:${100 * d / Math.max(1, last())}%\" title=\"${title}\">${text}</span>`, outcome = ends[endOf()].outcome;\n\
+\x20 const found = covered ? null : deciding(), at = (d, kind, text, title) => `<span class=\"${kind}\" data-step=\"${d}\" style=\"left:${100 * d / Math.max(1, last())}%\" title=\"${title}\">${text}</span>`, how = ends[endOf()].ends;\n\
 \x20 el('decides').disabled = !found;\n\
-\x20 el('marks').innerHTML = choices().filter(d => !found || d !== found[0]).map(d => at(d, 'choice', '\\u25c6', 'a choice')).join('') + (found ? at(found[0], 'warn', '<b>\\u25bc</b>', 'the step that decides') : '') + at(last(), covered ? '' : kindOf(outcome), covered ? '?' : SIGN[wordOf(outcome)], 'the end');\n\
+\x20 el('marks').innerHTML = choices().filter(d => !found || d !== found.depth).map(d => at(d, 'choice', '\\u25c6', 'a choice')).join('') + (found ? at(found.depth, 'warn', '<b>\\u25bc</b>', 'the step that decides') : '') + at(last(), covered ? '' : kindOf(how), covered ? '?' : SIGN[how], 'the end');\n\
 }\n\
 \n\
 // ---- keys, clicks, the address\n\
 const KEYS = {\n\
 \x20 ArrowRight: () => go(k + 1), ArrowLeft: () => go(k - 1), Home: () => go(0), End: () => go(last()),\n\
 \x20 c: () => go(choices().find(d => d > k) ?? last()), u: () => go(choices().reverse().find(d => d < k) ?? 0),\n\
-\x20 b: () => { const found = covered ? null : deciding(); if (found) go(found[0]); },\n\
+\x20 b: () => { const found = covered ? null : deciding(); if (found) go(found.depth); },\n\
 \x20 m: () => goNext(fact => fact.kind === 'match'), r: () => goNext(fact => isOf(fact, k ? facts[k].rank : 0)),\n\
 \x20 h: () => { covered = D.hide && !covered; title(); go(k); },\n\
 };\n\
@@ -599,14 +599,15 @@ function clicked(event) {\n\
 }\n\
 // To the moment that the address names; else to the start of the first run that goes wrong, or of the first run where ends are covered.\n\
 function come() {\n\
-\x20 const at = new URLSearchParams(location.hash.slice(1)), bad = covered ? 0 : ends.findIndex(end => kindOf(end.outcome) === 'bad');\n\
+\x20 const at = new URLSearchParams(location.hash.slice(1)), bad = covered ? 0 : ends.findIndex(end => kindOf(end.ends) === 'bad');\n\
 \x20 choose(Math.min(ends.length - 1, at.has('run') ? +at.get('run') || 0 : Math.max(0, bad)), +at.get('step') || 0);\n\
 }\n\
 function title() {\n\
 \x20 el('name').textContent = D.name;\n\
 \x20 document.title = `${D.name}: a run of ${N} ranks, step by step`;\n\
 \x20 el('about').textContent = `${N} rank${N > 1 ? 's' : ''}, ${D.mode}${D.note ? `. ${D.note}` : ''}`;\n\
-\x20 el('verdict').textContent = covered ? '' : D.said.join('; ');\n\
+\x20 const losing = ends.filter(end => end.lost).length;\n\
+\x20 el('verdict').textContent = covered ? '' : [...D.said, ...(losing ? [`requests are lost in ${losing} of the ${ends.length} shown`] : [])].join('; ');\n\
 \x20 el('uncover').innerHTML = `${covered ? 'show' : 'cover'} ends <kbd>h</kbd>`;\n\
 \x20 el('uncover').hidden = !D.hide;\n\
 \x20 el('treepane').hidden = ends.length < 2 && !nodes.some((_, i) => isChoice(i));\n\

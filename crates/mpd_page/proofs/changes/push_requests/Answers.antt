@@ -1,8 +1,8 @@
-use Rattle.std.proofs.Common.{length, string_bytes}
+use Rattle.std.proofs.Common.{length}
 use Rattle.mpd_core.proofs.RangeLemmas.{given_more}
 use Rattle.mpd_page.specs.Changes.{handle_changed}
 use Rattle.mpd_page.proofs.changes.push_requests.Goals as goal
 
 pub loop-cell-preserved : goal.loop-cell-preserved
 loop-cell-preserved c =
-    given_more (handle_changed c.args.rank c.args.was.now c.args.now.now) c.loop-cell.cell (length c.args.now.now) (string_bytes c.loop-cell.out) _ _ c.loop-cell-test.true c.loop-cell.invariant c.in_ok-push_handle.ensures
+    given_more (handle_changed c.args.rank c.args.was.now c.args.now.now) c.loop-cell.cell (length c.args.now.now) c.loop-cell.out.items _ _ c.loop-cell-test.true c.loop-cell.invariant c.in_ok-push_handle.ensures

@@ -2,7 +2,7 @@ use Rattle.std.proofs.Common.{◌≡◌, ◌≤◌, ◌+◌, ◌++◌, length}
 use Rattle.mpd_model.specs.steps.Next.{fold}
 use Rattle.mpd_model.specs.runs.Trail.{done_steps}
 use Rattle.mpd_page.specs.declared.tree.TheConstants.{STATES_MAX}
-use Rattle.mpd_page.specs.Trees.{run_end, run_tree, run_text}
+use Rattle.mpd_page.specs.Trees.{run_end, run_tree, run_nodes}
 use Rattle.mpd_page.proofs.nodes.follow.Given as goal
 
 abbrev pub invariant-loop-step : goal.invariant-loop-step
@@ -17,7 +17,7 @@ invariant-loop-step l = record {
   few : length l.drawn.tree.items + 1 ≤ STATES_MAX;
   number : run_end l.drawn.tree.items l.at l.left ≡ run_end l.fn.drawn.tree.items 0 l.steps;
   tree : run_tree l.drawn.tree.items l.at l.left ≡ run_tree l.fn.drawn.tree.items 0 l.steps;
-  text : l.drawn.text.items ++ run_text l.fn.behind.trail.program l.walk l.drawn.tree.items l.at l.behind.world l.left ≡ l.fn.drawn.text.items ++ run_text l.fn.behind.trail.program l.walk l.fn.drawn.tree.items 0 l.fn.behind.world l.steps;
+  nodes : l.drawn.nodes.items ++ run_nodes l.fn.behind.trail.program l.walk l.drawn.tree.items l.at l.behind.world l.left ≡ l.fn.drawn.nodes.items ++ run_nodes l.fn.behind.trail.program l.walk l.fn.drawn.tree.items 0 l.fn.behind.world l.steps;
   leads : fold l.behind.world l.left ≡ fold l.fn.behind.world l.steps;
 }
 

@@ -1,0 +1,7 @@
+use Rattle.std.proofs.Common.{◌≡◌, ◌-◌, ◌++◌}
+use Rattle.std.specs.List.{flat_map, range_with_len}
+use Rattle.mpd_page.specs.Changes.{values_at, values_changed}
+use Rattle.mpd_page.proofs.changes.values_changed.Given as goal
+
+abbrev pub invariant-loop-rank : goal.invariant-loop-rank
+invariant-loop-rank l = l.items.items ++ flat_map (values_at l.before.world l.after.world) (range_with_len l.rank (l.count - l.rank)) ≡ values_changed l.before.world l.after.world
