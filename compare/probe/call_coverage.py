@@ -15,7 +15,6 @@ LEFT_OUT = {
         'lines_lose_nothing': 'a law', 'ids': 'called by verify and witness_of', 'comparison_of': 'takes no memory',
         'into_inner': 'of a device that fails',
         **dict.fromkeys(('push_compared', 'push_meant'), 'called by push_break and the request breaks')},
-    'mpd_marks': {'mark_of': 'takes no memory', 'push_marked': 'called by diagnose, make_page and the words of the console', 'unmarked_texts_stay': 'a law'},
     'mpd_queue': {'disjoint': 'a law'},
     'mpd_rank': {'anew': 'of a record, called by a step that is taken again'},
     'mpd_core': {'all_ranks_are_there': 'a law'},
@@ -32,13 +31,13 @@ LEFT_OUT = {
         **dict.fromkeys(('frames_are_read_again', 'frames_are_the_same_in_all_pieces', 'frames_can_be_read_in_one_way'), 'a law')},
     'mpd_dap': {
         'a_response_has_its_request': 'a law', 'push_memory': 'takes no memory',
-        **dict.fromkeys(('all_continued', 'capabilities', 'ended_frame', 'exception', 'message_of', 'push_event', 'push_refusal', 'push_response', 'scopes',
+        **dict.fromkeys(('all_continued', 'capabilities', 'ended_frame', 'exception', 'message_of', 'push_event', 'push_failure', 'push_refusal', 'push_response', 'scopes',
                          'standing_frame', 'stopped', 'targets'), 'called by direct/message_rows.rattle')},
     'mpd_adapter': {
         **dict.fromkeys(('looks_change_nothing', 'moves_tell_where_they_stop', 'one_response_comes_first', 'other_bodies_are_passed_over',
                          'other_breakpoints_stay'), 'a law'),
         **dict.fromkeys(('rank_of_thread', 'thread_of', 'shelf_of', 'reason'), 'takes no memory'), 'word_for': 'called by its desk'},
-    'mpd_view': dict.fromkeys(('run_view', 'take_named'), 'called by the program with --view'),
+    'mpd_view': {**dict.fromkeys(('run_view', 'take_named'), 'called by the program with --view'), **dict.fromkeys(('sight', 'sight_of'), 'called by screen')},
     'mpd_trace': {
         'finish': 'called by plain', 'push_found': 'called by allowed', 'trace_echoing': 'called by the program with --echo',
         **dict.fromkeys(('with_ranks', 'span_of', 'word_at'), 'takes no memory'),
@@ -58,7 +57,7 @@ LEFT_OUT = {
     'mpd_check': {
         **dict.fromkeys(('list_search', 'put_listing'), 'called by check_listing'), 'list_sample': 'called by check_sample',
         'list_outcomes': 'called by check_outcomes', 'outcomes_in': 'called by check_mode_outcomes',
-        **dict.fromkeys(('found_in', 'mode_tally'), 'takes no memory')},
+        **dict.fromkeys(('found_in', 'mode_tally', 'ways'), 'takes no memory')},
     'mpd_outcomes': {
         'push_count': 'called by check', 'is_met': 'called by explore_outcomes',
         **dict.fromkeys(('enough_fuel_is_enough', 'same_futures_go_on_alike', 'same_futures_have_one_walk'), 'a law')},
@@ -71,6 +70,7 @@ LEFT_OUT = {
         **dict.fromkeys(('calls_name_their_statements', 'placed_steps_are_their_steps'), 'a law'),
         **dict.fromkeys(('outcome_end', 'all_losses', 'push_losses'), 'called by the request explain'), 'losses': 'called by all_losses',
         'placed_steps': 'called by the request decision', **dict.fromkeys(('copy_end', 'copy_losses', 'copy_steps'), 'called by a copy of a reply'),
+        'push_if': 'called by the looks of a session',
         **dict.fromkeys(('chooser', 'placed_step', 'same_end', 'same_losses', 'same_steps', 'tells_of'), 'takes no memory'),
         **dict.fromkeys(('absences', 'enabled_steps', 'history_of', 'losses_of', 'lost_calls', 'pending_calls', 'position_of', 'posted_calls',
                          'push_calls', 'push_candidate', 'push_enabled', 'push_history', 'push_position', 'push_queues', 'push_ranks', 'push_why',
@@ -79,22 +79,28 @@ LEFT_OUT = {
     'mpd_session': dict.fromkeys(('debugger', 'breaks', 'last_hit', 'lay'), BY_WORDS),
     'mpd_diagnose': {
         **dict.fromkeys(('full_command', 'push_verdict', 'ranks_line'), 'called by the program with --ranks'),
+        'verdict_text': 'called by diagnose',
         **dict.fromkeys(('closing_of', 'first_of', 'mode_line', 'modes_up_to', 'worst_of'), 'called by the program with --modes'),
         **dict.fromkeys(('always_fails', 'always_hangs', 'always_traps', 'drawn_counts', 'ends_well', 'exceeds', 'fails_both', 'is_drawn', 'is_same',
                          'never_fails', 'tries_modes'), 'takes no memory')},
-    'mpd_picture': {**dict.fromkeys(('arrows_are_pairs', 'lanes_go_down', 'messages_go_down'), 'a law'), 'picture_of': 'called by draw'},
-    'mpd_page': dict.fromkeys(('states_are_shown', 'texts_tell_changes', 'parents_come_first', 'data_has_no_markup'), 'a law'),
+    'mpd_picture': {**dict.fromkeys(('arrows_are_pairs', 'calls_are_drawn_once', 'lanes_go_down', 'messages_go_down'), 'a law'), 'picture_of': 'called by draw'},
+    'mpd_page': {
+        **dict.fromkeys(('states_are_shown', 'parents_come_first', 'data_has_no_markup'), 'a law'),
+        **dict.fromkeys(('draw_runs', 'page_text'), 'called by make_page')},
+    'mpd_object': dict.fromkeys(('done', 'flag', 'line', 'list', 'new', 'null', 'number', 'number_if', 'number_or_null', 'number_text', 'numbers', 'shown',
+                                 'text', 'text_value', 'with', 'with_some'), 'called by make_page, and by the program with --json'),
     'mpd_script': {'read_expression': BY_WORDS}, 'mpd_print': {'push_expr': BY_WORDS},
-    'mpd_vocabulary': {'behind_word': 'takes no memory', 'word_at': 'takes no memory', **dict.fromkeys(('line_of', 'push_fault', 'push_help', 'push_no_name', 'push_quoted'), BY_WORDS)},
+    'mpd_vocabulary': {**dict.fromkeys(('behind_word', 'condition_in', 'named_in', 'when_in', 'word_at'), 'takes no memory'), **dict.fromkeys(('line_of', 'push_fault', 'push_help', 'push_no_name', 'push_quoted'), BY_WORDS)},
     'mpd_console': {
+        **dict.fromkeys(('moves_go_to_the_first_stop', 'runs_back_and_on_agree'), 'a law'),
         **dict.fromkeys(('wish', 'go_on', 'is_in_file', 'insert'), 'takes no memory'),
         **dict.fromkeys(('keep', 'reopen', 'refused_again', 'take_named', 'ended_words', 'source_taken', 'source_refused'), BY_WORDS),
         **dict.fromkeys(('doing_of', 'evaluate', 'finish_rank', 'goto_command', 'known_for', 'lead_of', 'perform', 'sight_of', 'tell', 'tell_value'), BY_WORDS)},
     'mpd_names': {
         'copy_holdings': 'called by copy_end',
-        **dict.fromkeys(('is_blocked', 'can_wake', 'end_name', 'named_cell', 'placed_call', 'same_call', 'same_holdings', 'same_stands', 'stand',
-                         'stands'), 'takes no memory'),
-        **dict.fromkeys(('find_named', 'held_in', 'holdings', 'issue_line', 'rank_line', 'push_spaced', 'push_break', 'push_cell_name',
+        **dict.fromkeys(('is_blocked', 'can_wake', 'end_name', 'inner', 'line', 'mark_of', 'named_cell', 'none', 'placed_call', 'same_call',
+                         'same_holdings', 'same_stands', 'stand', 'stands'), 'takes no memory'),
+        **dict.fromkeys(('all_stands', 'find_named', 'held_in', 'holdings', 'issue_line', 'rank_line', 'push_spaced', 'push_break', 'push_cell_name',
                          'push_holdings', 'push_list', 'push_list_about', 'push_named', 'push_source', 'push_variables', 'push_end',
                          'push_end_places'), BY_WORDS)}}
 

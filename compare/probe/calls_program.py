@@ -25,7 +25,7 @@ SOURCES = f'{TOP}/compare/probe/memory'
 # What the calls are of, and what these stand on.
 USED = ('atomic_blocks', 'crossbeam_deque', 'mpd_counter', 'mpd_lines', 'mpd_frames', 'mpd_dap', 'mpd_model', 'mpd_queue', 'mpd_match', 'mpd_script', 'mpd_c', 'mpd_code',
         'mpd_rank', 'mpd_core', 'mpd_trail', 'mpd_policy', 'mpd_explore', 'mpd_pool', 'mpd_outcomes', 'mpd_check', 'mpd_session', 'mpd_wire', 'mpd_server', 'mpd_witness',
-        'mpd_diagnose', 'mpd_trace', 'mpd_options', 'mpd_laws', 'mpd_meaning', 'mpd_complete', 'mpd_runs', 'mpd_explain', 'mpd_names', 'mpd_marks',
+        'mpd_diagnose', 'mpd_trace', 'mpd_options', 'mpd_laws', 'mpd_meaning', 'mpd_complete', 'mpd_runs', 'mpd_explain', 'mpd_names',
         'mpd_vocabulary', 'mpd_picture', 'mpd_page', 'mpd_console', 'itoa', 'thiserror', 'rand', 'rand_core', 'rand_pcg')
 
 

@@ -2,8 +2,8 @@
 
 use crate::debug::{Ahead, console_of};
 use crate::outside::Outside;
-use crate::tell::Fault;
-use mpd_adapter::AdapterDesk;
+use crate::tell::{Fault, script_told};
+use mpd_adapter::{AdapterDesk, UnreadDesk};
 use mpd_code::Subject;
 use mpd_console::{Look, Opened, Screen};
 use mpd_frames::{StreamFault, run};
@@ -24,6 +24,11 @@ fn stream_fault<'a>(fault: StreamFault) -> Fault<'a> {
             Fault::Stream(fault)
         }
     }
+}
+
+/// Says what is waited for.
+fn say_waiting<R: Eprint>(rt: &R) {
+    let _unwritten = eprintln!(rt; "messages of an editor, in frames; docs/ADAPTER.md");
 }
 
 /// Answers the messages of a source on a script, up to the end of the session or of the input. What lies ahead is ahead from the start
@@ -47,7 +52,7 @@ pub(crate) fn adapt_script<'a, R: Eprint + AllocGlobal, S: Source, W: Sink>(
     let Opened { desk, said, .. } = console_of(rt.alloc(), subject, screen, ahead)?;
     drop(said);
     if terminals.is_terminal {
-        let _unwritten = eprintln!(rt; "messages of an editor, in frames; docs/ADAPTER.md");
+        say_waiting(rt);
     }
     let mut adapter = AdapterDesk::new(desk);
     let answered = run(rt.alloc(), source, sink, &mut adapter);
@@ -56,4 +61,29 @@ pub(crate) fn adapt_script<'a, R: Eprint + AllocGlobal, S: Source, W: Sink>(
         Ok(_) => Ok(()),
         Err(fault) => Err(stream_fault(fault)),
     }
+}
+
+/// Answers the messages of a source on a script that is refused or can't be read: a `launch` fails.
+/// What ends the program then is the fault that it is given, and nothing is answered of any other.
+pub(crate) fn refuse_script<'a, R: Eprint + AllocGlobal, S: Source, W: Sink>(
+    rt: &R,
+    fault: Fault<'a>,
+    outside: Outside<'_, S, W>,
+) -> Fault<'a> {
+    let Outside {
+        source,
+        sink,
+        terminals,
+    } = outside;
+    let Ok(Some(told)) = script_told(rt.alloc(), &fault) else {
+        return fault;
+    };
+    if terminals.is_terminal {
+        say_waiting(rt);
+    }
+    let mut desk = UnreadDesk::new(told.as_str());
+    let _answered = run(rt.alloc(), source, sink, &mut desk);
+    drop(desk);
+    drop(told);
+    fault
 }

@@ -9,7 +9,8 @@ use crate::tell::Fault;
 use mpd_code::{Code, Subject};
 use mpd_diagnose::{
     Diagnosis, DiagnosisPlan, Named, ScriptInModes, closing_of, diagnose, diagnosis_text,
-    full_command, leaves, mode_line, modes_up_to, push_verdict, ranks_line, verdict_of, worst_of,
+    full_command, leaves, mode_line, modes_up_to, push_verdict, ranks_line, verdict_of,
+    verdict_text, worst_of,
 };
 use mpd_explore::Witnesses;
 use mpd_json::diagnosis_json;
@@ -117,16 +118,13 @@ pub(crate) fn diagnose_script<'a, W: Sink>(
     Ok(verdict)
 }
 
-/// What is said of the runs of a script by a search with these limits, in lines of 80 columns at
-/// most: the first lines, which are told of all runs that it comes to. No step that decides is
-/// looked for, and no run is drawn.
-pub(crate) fn said_of<'a>(
+/// What becomes of the runs of a script, as a search with these limits finds it: a line for each
+/// thing that is said. No step that decides is looked for, and no run is drawn.
+pub(crate) fn verdict_of_runs<'a>(
     alloc: Global,
     subject: Subject<'_>,
-    file: &str,
-    ranks: Option<usize>,
     limits: StateLimits,
-) -> Result<Vec<u8>, Fault<'a>>
+) -> Result<String, Fault<'a>>
     requires { limits.fuel ≤ STEPS_MAX }
 {
     let plan = DiagnosisPlan {
@@ -135,15 +133,8 @@ pub(crate) fn said_of<'a>(
         drawn: 0,
     };
     let diagnosis = diagnose(alloc, subject, plan)?;
-    let named = Named {
-        script: &[],
-        decls: subject.code.decls(),
-        file,
-        ranks,
-        mode: subject.mode,
-    };
-    let told = diagnosis_text(alloc, named, limits.fuel, &diagnosis)?;
-    Ok(told)
+    let verdict = verdict_text(alloc, subject.mode, limits.fuel, &diagnosis)?;
+    Ok(verdict)
 }
 
 /// Writes what is told.

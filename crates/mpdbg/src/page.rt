@@ -2,13 +2,13 @@
 
 ghost use Rattle.std.specs.Prelude.{◌≤◌};
 
-use crate::diagnose::said_of;
+use crate::diagnose::verdict_of_runs;
 use crate::picture::{Asked, steps_of_asked};
 use crate::tell::Fault;
 use mpd_code::{Code, Subject};
 use mpd_explore::{SearchLeaf, SearchLimits, SearchReport, Unwatched, Witnesses, explore_watched};
 use mpd_lines::{EngineFault, write_all};
-use mpd_model::{Mode, STEPS_MAX, Sink, StepList, bare_line, cut_line};
+use mpd_model::{Mode, STEPS_MAX, Sink, StepList};
 use mpd_options::PageOptions;
 use mpd_outcomes::{Count, Goal, Outcomes, StateLimits, explore_outcomes};
 use mpd_page::{PageFault, Title, Walk, make_page};
@@ -16,9 +16,6 @@ use mpd_policy::{Ending, Plain, Wide};
 use mpd_runs::{WordsFault, steps_by_choices};
 use mpd_trail::Debugger;
 use std::alloc::{AllocError, Global};
-
-/// Before a line that goes on one before it.
-const GOES_ON: usize = 8;
 
 /// Which runs are shown.
 #[derive(Drop)]
@@ -40,7 +37,6 @@ struct PageScript<'s> {
     mode: Mode,
     text: &'s [u8],
     file: &'s str,
-    ranks: Option<usize>,
     /// How many steps a run has at most.
     fuel: usize,
     /// How many states each search comes to at most.
@@ -62,7 +58,7 @@ fn subject_of<'s>(script: PageScript<'s>) -> Subject<'s> {
 struct Found {
     runs: Vec<StepList>,
     walk: Walk,
-    said: Vec<u8>,
+    said: String,
     more: bool,
 }
 
@@ -70,11 +66,6 @@ struct Found {
 fn add_run(runs: &mut Vec<StepList>, run: StepList) -> Result<(), AllocError> {
     runs.push(run)?;
     Ok(())
-}
-
-/// Adds bytes.
-fn add(out: &mut Vec<u8>, text: &[u8]) -> Result<(), AllocError> {
-    out.extend_from_slice(text)
 }
 
 /// One run that is given.
@@ -93,7 +84,7 @@ fn given<'a>(
     Ok(Found {
         runs,
         walk,
-        said: Vec::new(alloc),
+        said: String::new(alloc),
         more: true,
     })
 }
@@ -223,7 +214,7 @@ fn first_leaves<'a>(
     Ok(Found {
         runs: found,
         walk: walk_of(ends),
-        said: Vec::new(alloc),
+        said: String::new(alloc),
         more,
     })
 }
@@ -311,43 +302,6 @@ fn is_more(total: Count, shown: usize) -> bool {
     }
 }
 
-/// Adds a line of what is said: one that begins with a space is a command, and isn't told, unless it goes on one before it.
-fn add_said(said: &mut Vec<u8>, line: &[u8], is_told: bool) -> Result<bool, AllocError> {
-    let goes_on = line.len() >= GOES_ON && line.iter().take(GOES_ON).all(|byte| *byte == b' ');
-    let is_command = line.first() == Some(&b' ');
-    if goes_on {
-        if is_told {
-            let (_, rest) = line.split_at(GOES_ON - 1);
-            add(said, rest)?;
-        }
-        return Ok(is_told);
-    }
-    if is_command {
-        return Ok(false);
-    }
-    if !said.is_empty() {
-        add(said, b"\n")?;
-    }
-    add(said, line)?;
-    Ok(true)
-}
-
-/// The first lines of a diagnosis, up to an empty one and without commands; long ones are joined.
-fn said_first<'a>(alloc: Global, text: &[u8]) -> Result<Vec<u8>, Fault<'a>> {
-    let mut said = Vec::new(alloc);
-    let mut is_told = false;
-    let mut rest = text;
-    while let Some((line, behind)) = cut_line(rest) {
-        let line = bare_line(line);
-        if line.is_empty() {
-            return Ok(said);
-        }
-        is_told = add_said(&mut said, line, is_told)?;
-        rest = behind;
-    }
-    Ok(said)
-}
-
 /// A run that hangs or traps and one that ends well, or the first that there is.
 fn both<'a>(alloc: Global, script: PageScript<'_>, ends: bool) -> Result<Found, Fault<'a>>
     requires { script.fuel ≤ STEPS_MAX }
@@ -364,8 +318,7 @@ fn both<'a>(alloc: Global, script: PageScript<'_>, ends: bool) -> Result<Found, 
     };
     let outcomes = outcomes_of(alloc, subject, limits)?;
     let runs = chosen_runs(alloc, subject, &outcomes.firsts.leaves, wide, fuel)?;
-    let told = said_of(alloc, subject, script.file, script.ranks, limits)?;
-    let said = said_first(alloc, &told)?;
+    let said = verdict_of_runs(alloc, subject, limits)?;
     let leaves = &outcomes.firsts.leaves;
     let more = outcomes.firsts.more || is_more(outcomes.total, runs.len()) || any_cut(leaves);
     Ok(Found {
@@ -411,7 +364,7 @@ fn page_of<'a>(alloc: Global, script: PageScript<'_>, found: &Found) -> Result<V
         text: script.text,
         walk: found.walk,
         hide: script.hide,
-        said: &found.said,
+        said: found.said.as_bytes(),
         more: found.more,
     };
     match make_page(
@@ -469,21 +422,19 @@ pub(crate) fn page_script<'a, W: Sink>(
     subject: Subject<'_>,
     text: &[u8],
     page: PageOptions<'a>,
-    wanted: (Wanted<'a>, Option<usize>),
+    wanted: Wanted<'a>,
     sink: &mut W,
 ) -> Result<(), Fault<'a>>
     requires fuel { page.fuel ≤ STEPS_MAX }
 {
-    let (runs, ranks) = wanted;
     let shown = PageScript {
         code: subject.code,
         mode: subject.mode,
         text,
         file: page.file,
-        ranks,
         fuel: page.fuel,
         states: page.states,
         hide: page.hide,
     };
-    write_page(alloc, shown, runs, sink)
+    write_page(alloc, shown, wanted, sink)
 }

@@ -60,25 +60,6 @@ impl Made {
     }
 }
 
-/// How many of the runs that a report lists end in each way.
-fn ways_of(tally: Tally) -> WayCounts {
-    let done = tally
-        .runs
-        .saturating_sub(tally.leftovers)
-        .saturating_sub(tally.deadlocks)
-        .saturating_sub(tally.traps)
-        .saturating_sub(tally.cut);
-    WayCounts {
-        done: Count::Exactly(done as u64),
-        leftovers: Count::Exactly(tally.leftovers as u64),
-        deadlock: Count::Exactly(tally.deadlocks as u64),
-        trap: Count::Exactly(tally.traps as u64),
-        cut: Count::Exactly(tally.cut as u64),
-        total: Count::Exactly(tally.runs as u64),
-        more: tally.more,
-    }
-}
-
 /// What becomes of a run, in the words of one and of several.
 #[derive(Clone, Copy)]
 enum Deed {
@@ -263,7 +244,7 @@ pub(crate) fn say_tally<R: Eprint>(
     tally: Tally,
     made: Made,
 ) -> io::Result<()> {
-    say_counts(rt, subject, tally, ways_of(tally), made)
+    say_counts(rt, subject, tally, tally.ways(), made)
 }
 
 /// Says in one line what a report tells of all runs: what becomes of them, where it tells every way in which the script can end, or else

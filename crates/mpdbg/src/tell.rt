@@ -10,9 +10,9 @@ use mpd_pool::PoolFault;
 use mpd_server::HostFault;
 use mpd_trace::{PlainFault, allowed, excerpt, hint};
 use mpd_witness::{ReportFault, WITNESS_MAX};
-use std::alloc::AllocError;
-use std::io;
+use std::alloc::{AllocError, Global};
 use std::io::{Error, ErrorKind};
+use std::{fmt, io};
 
 /// The status where a word that `clap` lets through or the file of a witness is none.
 const WRONG: u8 = 2;
@@ -138,18 +138,46 @@ impl<'t> Notes<'t> {
     }
 }
 
+/// Why a call of a device failed.
+#[derive(Clone, Copy)]
+struct Why(Option<Error>);
+
+impl fmt::Display for Why {
+    fn fmt<W: fmt::Write>(&self, f: &mut fmt::Formatter<W>) -> fmt::Result {
+        let Some(error) = self.0 else {
+            return f.write_str("no reason was given");
+        };
+        match error.kind() {
+            ErrorKind::NotFound => f.write_str("no such file"),
+            ErrorKind::IsADirectory => f.write_str("is a directory"),
+            ErrorKind::PermissionDenied => f.write_str("permission denied"),
+            ErrorKind::StorageFull => f.write_str("no space left"),
+            _ => write!(f, "{error}"),
+        }
+    }
+}
+
+/// What a person is told of a script that is refused or can't be read, in a line without its end;
+/// `None` of any other fault. An `Err` is want of memory.
+pub(crate) fn script_told(alloc: Global, fault: &Fault<'_>) -> Result<Option<String>, AllocError> {
+    match fault {
+        Fault::Plain(fault) => match fault {
+            PlainFault::Script(_, _) => Ok(Some(format!(in alloc; "{fault}")?)),
+            PlainFault::Engine(_) => Ok(None),
+        },
+        Fault::File(_, error) => {
+            let fault = PlainFault::Engine(EngineFault::ReadFailed);
+            let why = Why(*error);
+            Ok(Some(format!(in alloc; "{fault}: {why}")?))
+        }
+        _ => Ok(None),
+    }
+}
+
 /// Says why a call of a device failed.
 fn say_why<R: Eprint>(rt: &R, error: Option<Error>) -> io::Result<()> {
-    let Some(error) = error else {
-        return eprintln!(rt; "no reason was given");
-    };
-    match error.kind() {
-        ErrorKind::NotFound => eprintln!(rt; "no such file"),
-        ErrorKind::IsADirectory => eprintln!(rt; "is a directory"),
-        ErrorKind::PermissionDenied => eprintln!(rt; "permission denied"),
-        ErrorKind::StorageFull => eprintln!(rt; "no space left"),
-        _ => eprintln!(rt; "{error}"),
-    }
+    let why = Why(error);
+    eprintln!(rt; "{why}")
 }
 
 /// Says why a file can't be opened or read.
