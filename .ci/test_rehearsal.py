@@ -163,7 +163,7 @@ class TestCommand(OfScripts):
 
     def test_all_pass(self):
         status, lines = self.ran('test')
-        self.assertEqual((status, lines[-1]), (0, '11 passed, 0 failed'))
+        self.assertEqual((status, lines[-1]), (0, '12 passed, 0 failed'))
 
     def test_by_a_program(self):
         status, lines = self.ran('test', sys.executable)
@@ -174,13 +174,13 @@ class TestCommand(OfScripts):
 
     def test_one_fails(self):
         status, lines = self.ran('test', FAILS='compare/runs/worked.py')
-        self.assertEqual((status, lines[-1]), (1, '10 passed, 1 failed'))
+        self.assertEqual((status, lines[-1]), (1, '11 passed, 1 failed'))
         self.assertEqual(lines[-3:-1], ["test: what 'worked rows of the model' said last:", 'said by compare/runs/worked.py'])
 
     def test_a_proof_by_hand(self):
         self.write('top/crates/low/proofs/one/Proof.antt', '')
         status, lines = self.ran('test')
-        self.assertEqual((status, lines[-1]), (1, '10 passed, 1 failed'))
+        self.assertEqual((status, lines[-1]), (1, '11 passed, 1 failed'))
         self.assertIn('crates/low/proofs/one/Proof.antt', lines)
 
     def test_a_program_and_more(self):

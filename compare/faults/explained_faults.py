@@ -69,6 +69,11 @@ def without_word(text, call):
     return text[1:] if text.startswith('i') else text
 
 
+def of_call(change):
+    """What changes the text of a call, by the call."""
+    return after('plain_text', lambda text, world, call_id: change(text, find_call(world, call_id)))
+
+
 def line_faults():
     return (named('reached')(
                 *((what, lines_changed(change)) for what, change in (
@@ -86,13 +91,13 @@ def line_faults():
                 ('with its partner', lambda at, call_id: SOUND['call_text'](at, call_id) + (
                     f' with {partner(at.world, call_id)}' if partner(at.world, call_id) is not None else '')))
             + named('plain_text')(
-                ('no value', after('plain_text', lambda text, call: text.partition(' value')[0])),
-                ('calls that block and others alike', after('plain_text', without_word)),
-                ('synchronous sends and others alike', after('plain_text', lambda text, call: text.replace('ssend', 'send'))),
-                ('no tag', after('plain_text', lambda text, call: text.partition(' tag')[0])),
-                ('a wait without its request', after('plain_text', lambda text, call: text if call.kind != 'wait' else 'wait')),
-                ('the handle of a wait', after('plain_text', lambda text, call: text if call.kind != 'wait' else f'wait {call.handle}')),
-                ('a wait for any without its handles', after('plain_text', lambda text, call: text if call.kind != 'waitany' else 'waitany'))))
+                ('no value', of_call(lambda text, call: text.partition(' value')[0])),
+                ('calls that block and others alike', of_call(without_word)),
+                ('synchronous sends and others alike', of_call(lambda text, call: text.replace('ssend', 'send'))),
+                ('no tag', of_call(lambda text, call: text.partition(' tag')[0])),
+                ('a wait without its request', of_call(lambda text, call: text if call.kind != 'wait' else 'wait')),
+                ('the handle of a wait', of_call(lambda text, call: text if call.kind != 'wait' else f'wait {call.handle}')),
+                ('a wait for any without its handles', of_call(lambda text, call: text if call.kind != 'waitany' else 'waitany'))))
 
 
 # ---- wishes, and what could have ended a wait

@@ -4,8 +4,8 @@ Cases of compare/runs/run.py are written so now and then: the program then reads
 such a text is checked by compare/runs/canonical.py.
 """
 
-from model.language import (COMPARISONS, LEVELS, Assert, Assign, Barrier, Branch, Fault, Number, OwnRank, Place, Print, RankCount, Receive, Send, Unary, Wait,
-                            WaitAny, While, read_script)
+from model.language import (COMPARISONS, LEVELS, Assert, Assign, Barrier, Branch, Collective, Fault, Number, OwnRank, Place, Print, Probe, RankCount, Receive,
+                            Send, Unary, Wait, WaitAny, While, Whole, read_script)
 
 OPERAND = len(LEVELS)
 
@@ -39,6 +39,27 @@ def handle_text(word, handle):
     return word if handle is None else f'i{word} {place_text(handle)}'
 
 
+def status_text(status):
+    return '' if status is None else ' status ' + ' '.join(map(place_text, status))
+
+
+def cells_text(cells):
+    """The text of an array that stands for all its cells, of a place, or of an expression."""
+    if isinstance(cells, Whole):
+        return cells.name
+    return place_text(cells) if isinstance(cells, Place) else expression_text(cells)
+
+
+def collective_text(statement):
+    """The text of a collective: what it gives, its operation, its root, and where it puts what it gets."""
+    if statement.kind == 'bcast':
+        return f'bcast {place_text(statement.into)} from {expression_text(statement.root)}'
+    parts = [statement.kind, cells_text(statement.given)] + [f'with {statement.operation}'] * (statement.operation is not None)
+    if statement.root is not None:
+        parts.append(f'{"from" if statement.kind == "scatter" else "to"} {expression_text(statement.root)}')
+    return ' '.join([*parts, 'into', cells_text(statement.into)])
+
+
 def simple_text(statement):
     """The text of a statement that holds no other, without its `;`."""
     if isinstance(statement, Assign):
@@ -57,10 +78,13 @@ def simple_text(statement):
         word = 'ssend' if statement.synchronous else 'send'
         return (f'{handle_text(word, statement.handle)} {expression_text(statement.value)} to {expression_text(statement.to)} '
                 f'tag {expression_text(statement.tag)}')
+    if isinstance(statement, Collective):
+        return collective_text(statement)
+    behind = f'from {or_any(statement.source)} tag {or_any(statement.tag)}{status_text(statement.status)}'
+    if isinstance(statement, Probe):
+        return f'probe {behind}'
     assert isinstance(statement, Receive)
-    status = '' if statement.status is None else ' status ' + ' '.join(map(place_text, statement.status))
-    return (f'{handle_text("recv", statement.handle)} {place_text(statement.place)} from {or_any(statement.source)} '
-            f'tag {or_any(statement.tag)}{status}')
+    return f'{handle_text("recv", statement.handle)} {place_text(statement.place)} {behind}'
 
 
 def lines_of(statements, indentation=''):

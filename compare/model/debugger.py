@@ -2,11 +2,11 @@
 
 from typing import NamedTuple
 
-from model import language
-from model.language import (Assert, Assign, Barrier, Branch, FAULT_NAMES, Fault, Print, Receive, Send, Trap, View, Wait, WaitAny, While, cell_of, evaluate,
-                            read_script)
+from model import collectives, language
+from model.language import (Assert, Assign, Barrier, Branch, Collective, FAULT_NAMES, Fault, Print, Probe, Receive, Send, Trap, View, Wait, WaitAny, While,
+                            Whole, cell_of, evaluate, read_script)
 from model.modes import BUFFERED, RENDEZVOUS, slots_of
-from model.worlds import BarrierCall, Call, CallId, Pair, Rank, Released, Step, WaitAnyCall, WaitCall, Woken, World
+from model.worlds import (BarrierCall, Call, CallId, CollectiveCall, Pair, ProbeCall, Rank, Released, Step, WaitAnyCall, WaitCall, Woken, World)
 
 HIGHEST_TAG = 32767
 MOST_STEPS = 1000000
@@ -57,16 +57,71 @@ def called(statement, view):
 def received(statement, blocks, view):
     """The call that a receive makes: the cell of its value, the source, the tag, and then the cells of its status."""
     cell = cell_of(statement.place, view)
+    other, tag, status = looked_for(statement, view)
+    return Call('recv', blocks, other, tag, None, cell, status, line=statement.line)
+
+
+def looked_for(statement, view):
+    """The source of a receive or a probe, the tag, and then the cells of its status."""
     other = None if statement.source is None else in_bounds(statement.source, view.ranks - 1, 'bad-rank', view)
     tag = None if statement.tag is None else in_bounds(statement.tag, HIGHEST_TAG, 'bad-tag', view)
-    status = None if statement.status is None else tuple(cell_of(place, view) for place in statement.status)
-    return Call('recv', blocks, other, tag, None, cell, status, line=statement.line)
+    return other, tag, None if statement.status is None else tuple(cell_of(place, view) for place in statement.status)
+
+
+def probed(statement, view):
+    """The call that a probe makes."""
+    other, tag, status = looked_for(statement, view)
+    return ProbeCall(other, tag, status, statement.line)
+
+
+def cells_checked(whole, view):
+    """The first cell of an array that has one for each rank."""
+    if whole.count < view.ranks:
+        raise Trap('bad-index')
+    return whole.first
+
+
+def given_values(given, view):
+    """What a collective gives that is named: a value, or one for each rank."""
+    if not isinstance(given, Whole):
+        return (evaluate(given, view),)
+    first = cells_checked(given, view)
+    return view.cells[first:first + view.ranks]
+
+
+def root_of(statement, view):
+    return None if statement.root is None else in_bounds(statement.root, view.ranks - 1, 'bad-rank', view)
+
+
+def broadcast(statement, view):
+    """The call that a bcast makes: the index of its place stands before its root, and the root gives what stands there."""
+    cell = cell_of(statement.into, view)
+    root = root_of(statement, view)
+    return CollectiveCall('bcast', root, None, (view.cells[cell],) if root == view.rank else (), cell, statement.line)
+
+
+def collected(statement, view):
+    """The call that a collective of any other kind makes: what it gives, the root, and then where it puts what it gets. Each rank evaluates and
+    checks all of it, also what counts at the root alone."""
+    values, root = given_values(statement.given, view), root_of(statement, view)
+    cell = cells_checked(statement.into, view) if isinstance(statement.into, Whole) else cell_of(statement.into, view)
+    gives = statement.kind not in collectives.OF_ROOT or root == view.rank
+    return CollectiveCall(statement.kind, root, statement.operation, values if gives else (), cell, statement.line)
+
+
+def met_at(statement, view):
+    """The call that a barrier, a collective or a probe makes."""
+    if isinstance(statement, Barrier):
+        return BarrierCall(line=statement.line)
+    if isinstance(statement, Probe):
+        return probed(statement, view)
+    return broadcast(statement, view) if statement.kind == 'bcast' else collected(statement, view)
 
 
 def issued(rank, statement, view):
     """The rank behind a statement that makes a call."""
-    if isinstance(statement, Barrier):
-        return rank._replace(calls=rank.calls + (BarrierCall(line=statement.line),), mode='blocked')
+    if isinstance(statement, (Barrier, Collective, Probe)):
+        return rank._replace(calls=rank.calls + (met_at(statement, view),), mode='blocked')
     if isinstance(statement, WaitAny):
         return rank._replace(calls=rank.calls + (waited_for_any(statement, rank, view),), mode='blocked')
     handle = None if statement.handle is None else cell_of(statement.handle, view)
@@ -108,7 +163,7 @@ def executed(rank, view):
         if evaluate(statement.condition, view) == 0:
             raise Trap('assert')
         return rank._replace(rest=tail)
-    assert isinstance(statement, (Send, Receive, Wait, WaitAny, Barrier))
+    assert isinstance(statement, (Send, Receive, Wait, WaitAny, Barrier, Collective, Probe))
     return issued(rank, statement, view)._replace(rest=tail)
 
 
@@ -260,13 +315,43 @@ def is_at_any(rank):
     return rank.mode == 'blocked' and rank.calls[-1].kind == 'waitany'
 
 
+def is_at_probe(rank):
+    return rank.mode == 'blocked' and rank.calls[-1].kind == 'probe'
+
+
+def is_at_collective(rank):
+    """Whether a rank is at a collective; a barrier is none here."""
+    return rank.mode == 'blocked' and rank.calls[-1].kind in collectives.KINDS
+
+
+def is_available(world, send_id, probe_id):
+    """Whether a free send is there for a probe: a receive in the place of the probe, which is its rank's last call, would be eligible with it."""
+    return fits(world, send_id, probe_id) and not sends_ahead(world, send_id, probe_id) and not receives_ahead(world, send_id, probe_id)
+
+
+def available(world, probe_id):
+    """The sends that are there for a probe, at most one of each rank."""
+    sends = [send_id for source in range(len(world.ranks)) for send_id in pending(world, source, probe_id.rank)]
+    return [send_id for send_id in sends if is_available(world, send_id, probe_id)]
+
+
+def is_forced(probe):
+    """Whether a probe is complete where something is there: it names its source."""
+    return probe.other is not None
+
+
 def can_wake(world, number):
-    """Whether a rank is blocked on a complete call; a barrier never is complete, a wait for any where no handle had a request."""
+    """Whether a rank is blocked on a complete call; a barrier never is complete, nor is a probe of any source, and a wait for any is where no handle
+    had a request."""
     rank = world.ranks[number]
     if rank.mode != 'blocked' or is_at_barrier(rank):
         return False
     if is_at_any(rank):
         return not rank.calls[-1].active
+    if is_at_collective(rank):
+        return collectives.has_met(world, last_call(world, number))
+    if is_at_probe(rank):
+        return is_forced(rank.calls[-1]) and bool(available(world, last_call(world, number)))
     call_id = awaited(world, number)
     return call_id is None or is_done(world, call_id)
 
@@ -308,6 +393,10 @@ def after_wake(world, number):
     call = world.ranks[number].calls[-1]
     if call.kind == 'waitany':
         return woken(world, number, [(call.cell, NO_HANDLE)], None)
+    if call.kind in collectives.KINDS:
+        return woken(world, number, collectives.collective_writes(world, last_call(world, number)), None)
+    if call.kind == 'probe':
+        return told_of(world, number, available(world, last_call(world, number))[0])
     call_id = awaited(world, number)
     writes = [] if call_id is None else received_writes(world, call_id)
     return woken(world, number, writes, call.handle if call.kind == 'wait' else None)
@@ -318,10 +407,27 @@ def chosen_handle(call, place):
     return call.first + place if place < call.count else None
 
 
+def told_of(world, number, send_id):
+    """The world in which a rank goes on from a probe that is told of a send: the sender and the tag are written, in this order, and the send stays
+    as it is."""
+    status = world.ranks[number].calls[-1].status or ()
+    return woken(world, number, list(zip(status, (send_id.rank, find_call(world, send_id).tag))), None)
+
+
+def found_by_probe(world, number, sender):
+    """The send of a rank that another is told of by a probe of any source; None where there is none."""
+    if not is_at_probe(world.ranks[number]) or is_forced(world.ranks[number].calls[-1]):
+        return None
+    return next((send_id for send_id in available(world, last_call(world, number)) if send_id.rank == sender), None)
+
+
 def can_wake_by(world, number, place):
-    """Whether a rank waits for any of some handles, and the one at a place among them has a complete call."""
-    if number >= len(world.ranks) or not is_at_any(world.ranks[number]):
+    """Whether a rank waits for any of some handles, and the one at a place among them has a complete call; or it is at a probe of any source, and a
+    send of the rank of that number is there."""
+    if number >= len(world.ranks):
         return False
+    if not is_at_any(world.ranks[number]):
+        return found_by_probe(world, number, place) is not None
     rank = world.ranks[number]
     handle = chosen_handle(rank.calls[-1], place)
     if handle is None or rank.handles[handle] is None:
@@ -340,6 +446,8 @@ def writes_by(world, number, place):
 def after_wake_by(world, number, place):
     if not can_wake_by(world, number, place):
         return None
+    if is_at_probe(world.ranks[number]):
+        return told_of(world, number, found_by_probe(world, number, place))
     handle = chosen_handle(world.ranks[number].calls[-1], place)
     return woken(world, number, writes_by(world, number, place), handle)
 
@@ -369,14 +477,21 @@ def next_world(world, step):
     return after_release(world)
 
 
+def places_of(world, rank):
+    """The numbers by which a rank may go on: those of handles that it waits for any of, or of ranks where it is at a probe."""
+    if is_at_probe(rank):
+        return range(len(world.ranks))
+    return range(rank.calls[-1].count) if is_at_any(rank) else ()
+
+
 def wakes_by_handles(world):
-    """The enabled wakes by one of the handles that a rank waits for any of, by rank and place."""
-    places = [(number, place) for number, rank in enumerate(world.ranks) if is_at_any(rank) for place in range(rank.calls[-1].count)]
+    """The enabled wakes by one of the handles that a rank waits for any of, and those from probes of any source, by rank and place."""
+    places = [(number, place) for number, rank in enumerate(world.ranks) for place in places_of(world, rank)]
     return [Step('wakeany', number, place) for number, place in places if can_wake_by(world, number, place)]
 
 
 def enabled_steps(world):
-    """All enabled steps: local ones, the release, wakes, all by rank, then wakes by one of some handles, by rank and place, and then
+    """All enabled steps: local ones, the release, wakes, all by rank, then wakes by one of some handles or from a probe, by rank and place, and then
     matches by receiver, number of the receive, sender."""
     ranks = range(len(world.ranks))
     steps = [Step('local', rank) for rank in ranks if can_run(world.ranks[rank])]
@@ -461,6 +576,15 @@ def buffer_text(mode, call):
     return ' buffered' if call.buffered and slots_of(mode) is not None else ''
 
 
+def met_text(world, call_id):
+    """What is shown of a collective or a probe."""
+    call = find_call(world, call_id)
+    if call.kind != 'probe':
+        return collectives.collective_text(world, call_id)
+    source, tag = ('any' if part is None else part for part in (call.other, call.tag))
+    return f'probe from {source} tag {tag}'
+
+
 def call_line(world, call_id):
     call = find_call(world, call_id)
     if call.kind == 'barrier':
@@ -469,6 +593,8 @@ def call_line(world, call_id):
         return f'call {call_id} wait {"none" if call.target is None else call.target}'
     if call.kind == 'waitany':
         return f'call {call_id} waitany {call.first} {call.count}{"" if call.active else " none"}'
+    if call.kind == 'probe' or call.kind in collectives.KINDS:
+        return f'call {call_id} {met_text(world, call_id)}'
     other_id = partner(world, call_id)
     state = 'free' if other_id is None else f'with {other_id}'
     word = call_word(call)

@@ -13,7 +13,7 @@ compare/rows/worked_decided.py has rows of it, and compare/runs/outcomes.py comp
 from typing import NamedTuple, Optional
 
 from model import explaining, walks, wide
-from model.console_lines import request_of
+from model.console_lines import is_told, request_of
 from model.debugger import find_call, last_call
 from model.explaining import call_text, next_line
 from model.policy import Forced
@@ -113,6 +113,9 @@ def told_step(at, step):
     rank = at.world.ranks[step.first]
     line = next_line(rank) if step.kind == 'local' else at.lines[last_call(at.world, step.first)]
     going = f'rank {step.first}, line {line}, goes on'
+    if is_told(at.world, step):
+        # (reading: a step from a probe is told as what it is told of; nothing is said of it elsewhere)
+        return f'rank {step.first}, line {line}, is told of the message of {message(at, request_of(at.world, step))}'
     return f'{going} by {call_text(at, request_of(at.world, step))}' if step.kind == 'wakeany' else going
 
 

@@ -5,9 +5,9 @@ compare/rows/worked_explained.py has rows of it, and compare/runs/explained.py c
 
 from typing import NamedTuple
 
-from model import debugger
-from model.debugger import call_word, find_call, first_world, free_calls, is_at_barrier, last_call, next_world
-from model.language import Binary, Place, Unary
+from model import collectives, debugger
+from model.debugger import call_word, find_call, first_world, free_calls, is_at_barrier, is_at_collective, last_call, met_text, next_world
+from model.language import Binary, Place, Unary, Whole
 from model.worlds import CallId, Pair
 
 NEAREST, TAKEN, CYCLE = 'nearest miss', 'the last that fits is taken', 'a cycle, where each waits for the next'
@@ -15,8 +15,10 @@ NEAREST, TAKEN, CYCLE = 'nearest miss', 'the last that fits is taken', 'a cycle,
 SHOWN = 16
 # What may differ of a send and a receive.
 DIFFERENCES = TAG, SOURCE, DESTINATION = 'tag', 'source', 'destination'
-# The same for each of the two that looks for the other, that which is nearest first: calls of the rank that it waits for come before others.
-NEARER = {'send': (TAG, SOURCE, DESTINATION), 'recv': (TAG, DESTINATION, SOURCE)}
+# The same for each of those that look for the other, that which is nearest first: calls of the rank that it waits for come before others.
+NEARER = {'send': (TAG, SOURCE, DESTINATION), 'recv': (TAG, DESTINATION, SOURCE), 'probe': (TAG, DESTINATION, SOURCE)}
+# What looks for a message, or for somebody who takes it; a probe does as a receive.
+LOOKING = ('send', 'recv', 'probe')
 
 
 class Reached(NamedTuple):
@@ -47,8 +49,11 @@ def or_any(part):
     return 'any' if part is None else part
 
 
-def plain_text(call):
+def plain_text(world, call_id):
     """What is shown of a call, without what is shown behind it."""
+    call = find_call(world, call_id)
+    if call.kind == 'probe' or call.kind in collectives.KINDS:
+        return met_text(world, call_id)
     if call.kind == 'send':
         return f'{call_word(call)} to {call.other} tag {call.tag} value {call.value}'
     if call.kind == 'recv':
@@ -62,7 +67,15 @@ def plain_text(call):
 
 def call_text(at, call_id):
     """A call, with its line and its name."""
-    return f'line {at.lines[call_id]}, {call_id} {plain_text(find_call(at.world, call_id))}'
+    return f'line {at.lines[call_id]}, {call_id} {plain_text(at.world, call_id)}'
+
+
+def wish_of_collective(world, call_id):
+    """What a collective waits for: in the mode `buffered`, where it gets from one other rank, for that."""
+    others = [number for number in collectives.waits_for(world, call_id) if number != call_id.rank]
+    # (reading: in each other case all ranks are told, also where a scan waits for some of them)
+    whom = f'rank {others[0]}' if world.mode == debugger.BUFFERED and len(others) == 1 else 'all ranks'
+    return f'for {whom} in round {collectives.round_of(world, call_id)}'
 
 
 def wish(at, call_id):
@@ -70,7 +83,9 @@ def wish(at, call_id):
     call = find_call(at.world, call_id)
     if call.kind == 'send':
         return f'for a receive of rank {call.other} from rank {call_id.rank} with tag {call.tag}'
-    if call.kind == 'recv':
+    if call.kind in collectives.KINDS:
+        return wish_of_collective(at.world, call_id)
+    if call.kind in ('recv', 'probe'):
         source = 'any rank' if call.other is None else f'rank {call.other}'
         return f'for a send of {source} with {"any tag" if call.tag is None else f"tag {call.tag}"}'
     if call.kind == 'wait':
@@ -87,7 +102,7 @@ def wishing(at, call_id):
 def sorted_pair(world, one, other):
     """A send and a receive in this order, of two calls in any order; None where they are none."""
     kinds = find_call(world, one).kind, find_call(world, other).kind
-    return {('send', 'recv'): (one, other), ('recv', 'send'): (other, one)}.get(kinds)
+    return {('send', 'recv'): (one, other), ('recv', 'send'): (other, one), ('probe', 'send'): (other, one)}.get(kinds)
 
 
 def differences(world, send_id, receive_id):
@@ -172,12 +187,24 @@ def why_not_there(at, number):
     return 'it has ended' if has_ended(rank) else f'it is at line {next_line(rank)}'
 
 
+def not_met(at, call_id, number):
+    """What is told of a rank that a collective waits for still: that it has no call of this round, or another one."""
+    there = collectives.in_round(at.world, number, collectives.round_of(at.world, call_id))
+    if there is None:
+        return f'rank {number} is not there: {why_not_there(at, number)}'
+    return f'rank {number} is at another there: {call_text(at, there)}'
+
+
 def behind(at, call_id):
     """The lines behind that of a blocked call."""
     kind = find_call(at.world, call_id).kind
     if kind == 'barrier':
         return [f'rank {number} is not there: {why_not_there(at, number)}' for number in not_there(at.world)]
-    if kind in ('send', 'recv'):
+    if kind in collectives.KINDS:
+        # (reading: by rank, each with its line, whether it isn't there or is at another)
+        return [not_met(at, call_id, number) for number in collectives.missing(at.world, call_id)]
+    if kind in LOOKING:
+        # (reading: of a probe the last that fits and was taken is told too, as of a receive)
         return list(chances(at, call_id))
     return [line for request in requests(at.world, call_id.rank) for line in (wishing(at, request), *chances(at, request))]
 
@@ -203,7 +230,9 @@ def waited_for(world, number):
     kind = find_call(world, call_id).kind
     if kind == 'barrier':
         return not_there(world)
-    calls = [call_id] if kind in ('send', 'recv') else requests(world, number)
+    if kind in collectives.KINDS:
+        return collectives.missing(world, call_id)
+    calls = [call_id] if kind in LOOKING else requests(world, number)
     return sorted(set().union(*(partners_of(world, call) for call in calls)))
 
 
@@ -213,7 +242,8 @@ def rank_text(world, number):
 
 def whom_line(world, number):
     ranks = [rank_text(world, other) for other in waited_for(world, number)]
-    wanted = 'all' if is_at_barrier(world.ranks[number]) else 'any'
+    rank = world.ranks[number]
+    wanted = 'all' if is_at_barrier(rank) or is_at_collective(rank) else 'any'
     return f'  rank {number} waits for {f"{wanted} of " * (len(ranks) > 1)}{", ".join(ranks) or "nobody"}'
 
 
@@ -265,20 +295,21 @@ def short_value(at, number, declared):
     return f'[{", ".join(values + [".."] * (declared.size > SHOWN))}]'
 
 
-# The expressions of a statement, and the places that it names outside of them.
-EXPRESSIONS, PLACES = ('value', 'condition', 'to', 'tag', 'source'), ('handle', 'place')
+# The expressions of a statement, and the places that it names outside of them. What a collective gives is an expression unless it is an array, and it
+# gets into a place unless that is one. (reading: an array that stands for all its cells is in no expression, so it isn't named among what is read)
+EXPRESSIONS, PLACES = ('value', 'condition', 'to', 'tag', 'source', 'given', 'root'), ('handle', 'place', 'into')
 
 
 def places_of(statement):
     """The places of a statement that stand in no expression."""
     places = [getattr(statement, part, None) for part in PLACES]
-    return [place for place in (*places, *(getattr(statement, 'status', None) or ())) if place is not None]
+    return [place for place in (*places, *(getattr(statement, 'status', None) or ())) if place is not None and not isinstance(place, Whole)]
 
 
 def expressions_of(statement):
     """The expressions of a statement, those of the statements inside it left out: of a place the index alone is one."""
     parts = [getattr(statement, part, None) for part in EXPRESSIONS]
-    return [part for part in (*parts, *(place.index for place in places_of(statement))) if part is not None]
+    return [part for part in (*parts, *(place.index for place in places_of(statement))) if part is not None and not isinstance(part, Whole)]
 
 
 def names_in(expression):

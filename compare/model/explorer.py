@@ -13,7 +13,7 @@ from typing import NamedTuple, Optional
 from model import explaining, marks, walks, wide
 from model.debugger import (BAD_FILE, BAD_MODE, BUFFERED, RENDEZVOUS, Debugger, Result, blocked_calls, call_id_of, enabled_steps, first_world,
                             next_world, outcome, refusal, step_text)
-from model.language import Branch, Fault, WaitAny, While, read_script
+from model.language import Branch, Fault, Probe, WaitAny, While, read_script
 from model.modes import is_mode, slots_of
 from model.walks import CUT, Leaf, Run, listed, walk
 
@@ -208,10 +208,18 @@ def has_waitany(statements):
                or isinstance(one, While) and has_waitany(one.body) for one in statements)
 
 
+def has_choice_of_wakes(statements):
+    """Whether a statement from which a rank goes on by a choice stands among statements, or in a block of one: a wait for any of some handles, or a
+    probe of any source."""
+    return any(isinstance(one, WaitAny) or isinstance(one, Probe) and one.source is None
+               or isinstance(one, Branch) and (has_choice_of_wakes(one.then) or has_choice_of_wakes(one.otherwise))
+               or isinstance(one, While) and has_choice_of_wakes(one.body) for one in statements)
+
+
 def tells_all(script, mode, is_wide):
     """Whether a report where all runs are listed to their ends tells every way in which a script can end in a mode: each does along the wide
-    walk, and along decisions none with a wait for any of some handles, nor in a mode of slots."""
-    return is_wide or not has_waitany(script.body) and slots_of(mode) is None
+    walk, and along decisions none with a wait for any of some handles or a probe of any source, nor in a mode of slots."""
+    return is_wide or not has_choice_of_wakes(script.body) and slots_of(mode) is None
 
 
 def status_of(script, mode, found, complete, is_wide):

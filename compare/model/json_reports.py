@@ -10,7 +10,7 @@ import re
 
 from model import explorer, marks
 from model.debugger import RENDEZVOUS
-from model.explorer import has_waitany, read_script
+from model.explorer import has_choice_of_wakes, read_script
 from model.modes import slots_of
 from model.report_lines import must_be
 
@@ -299,7 +299,7 @@ def test_report(script, report, asked, status, is_wide):
     test_counts(report['counts'])
     cut = report['counts']['cut']
     is_listed = not report['more'] and cut['exact'] and not cut['count']
-    is_whole = is_listed and (is_wide or not has_waitany(script.body) and slots_of(asked.mode or RENDEZVOUS) is None)
+    is_whole = is_listed and (is_wide or not has_choice_of_wakes(script.body) and slots_of(asked.mode or RENDEZVOUS) is None)
     must_be(report['whole'] == is_whole, f'whole {report["whole"]}')
 
 

@@ -2,7 +2,8 @@
 
 import re
 from bisect import bisect_left
-from functools import lru_cache
+from contextlib import contextmanager
+from functools import lru_cache, partial
 from typing import NamedTuple, Optional
 
 HIGHEST = 2 ** 63 - 1
@@ -17,9 +18,12 @@ MOST_STATEMENTS = 4096
 MOST_OPEN_BLOCKS = 64
 MOST_OPERATORS = 64
 
-# The versions that are read: `waitany` is a statement of version 2 alone. A program that knows version 1 alone is compared with a model
-# that reads no other (`--version 1` of the runs that compare a program).
-VERSIONS = [1, 2]
+# The highest version that is read. The program doesn't read version 3 yet, so `mpd 3;` is refused, but where a run asks for it
+# (`reading_up_to`): compare/runs/version3.py, and the rows of version 3 in compare/runs/worked.py.
+LANGUAGE_MAX = 2
+# The versions that are read: `waitany` is a statement from version 2 on, collectives, probes and what stands for several statements are of
+# version 3. A program that knows version 1 alone is compared with a model that reads no other (`--version 1` of the runs that compare a program).
+VERSIONS = list(range(1, LANGUAGE_MAX + 1))
 
 TOO_LONG, NOT_TEXT, BAD_TOKEN, EXPECTED, UNKNOWN_NAME = range(1, 6)
 TWICE, TOO_DEEP, TOO_MANY, BAD_RANKS, NOT_IN_VERSION = range(6, 11)
@@ -32,16 +36,25 @@ FAULT_NAMES = {
 RESERVED = frozenset('''
     mpd ranks var req if else while print assert send ssend isend issend recv irecv wait waitany barrier
     to from tag any status rank size'''.split())
+# In a text of version 3 these are reserved too; in each other one they are names.
+RESERVED_IN_3 = frozenset('''
+    const for in with into waitall sendrecv bcast reduce allreduce gather scatter allgather alltoall scan probe'''.split())
+# The operations of a reduction, which are names in every version.
+OPERATIONS = ('sum', 'prod', 'min', 'max', 'and', 'or')
+# The handle that the first `sendrecv` declares where it isn't there.
+OWN_HANDLE = 'sendrecv_'
 
 OTHER_THAN_TEXT = re.compile(rb'[^\t\n\r\x20-\x7e]')
 BLANKS = re.compile(r'(?:[\t\n\r ]+|#[^\n]*)*')
 NUMBER = re.compile(r'[0-9]+')
 WORD = re.compile(r'[A-Za-z_][A-Za-z0-9_]*')
 SIGN = re.compile(r'==|!=|<=|>=|&&|\|\||[;{}()\[\]=<>+\-*/%!]')
+SIGN_OF_3 = re.compile(rf'\.\.|{SIGN.pattern}')
 
 COMPARISONS = ('==', '!=', '<', '<=', '>', '>=')
-# Operators with two operands, those that bind least first.
+# Operators with two operands, those that bind least first; where a sum stands among them.
 LEVELS = (('||',), ('&&',), COMPARISONS, ('+', '-'), ('*', '/', '%'))
+SUM = 3
 
 
 class Fault(Exception):
@@ -92,7 +105,8 @@ class Binary(NamedTuple):
 
 
 class Line(int):
-    """The line at which a statement begins, and the place of its first byte, which tells it from others of that line."""
+    """The line at which a statement begins, and the place of its first byte, which tells it from others of that line. (reading: statements that
+    stand for one have the place of its word, as they have its line, and the last one of a `for` that of its bracket)"""
 
     def __new__(cls, line, place=None):
         it = super().__new__(cls, line)
@@ -170,6 +184,32 @@ class Barrier(NamedTuple):
     line: int
 
 
+class Whole(NamedTuple):
+    """A name that stands for all its cells: the first of them, and how many they are."""
+    name: str
+    first: int
+    count: int
+
+
+class Collective(NamedTuple):
+    """A collective, by its word. What it gives is an expression or an array, in a bcast None, as that gives what stands in its place; root and
+    operation are None where its kind has none; what it gets goes to a place or an array."""
+    line: int
+    kind: str
+    given: object
+    root: object
+    operation: Optional[str]
+    into: object
+
+
+class Probe(NamedTuple):
+    """A probe: source, tag and status are those of a receive."""
+    line: int
+    source: object
+    tag: object
+    status: Optional[tuple]
+
+
 class Declared(NamedTuple):
     """A declared name: `var` or `req`, its first cell or handle, and its size where it is an array."""
     kind: str
@@ -192,19 +232,57 @@ def read_up_to(version):
     VERSIONS[:] = range(1, version + 1)
 
 
+@contextmanager
+def reading_up_to(version):
+    """Has the model read no later version than this one meanwhile."""
+    before = VERSIONS[:]
+    read_up_to(version)
+    read_script.cache_clear()
+    try:
+        yield
+    finally:
+        VERSIONS[:] = before
+        read_script.cache_clear()
+
+
 def most(kind):
     """How many cells or handles all declarations of a kind may have."""
     return MOST_CELLS if kind == 'var' else MOST_HANDLES
 
 
+class Form(NamedTuple):
+    """How a collective is written: whether it gives an array or a value, whether it has an operation, the word before its root, or None, and
+    whether it gets an array or a value."""
+    gives_array: bool
+    has_operation: bool
+    root_word: Optional[str]
+    gets_array: bool
+
+
+# Those of all kinds but `bcast`, which has its place in front.
+FORMS = {
+    'reduce': Form(False, True, 'to', False), 'allreduce': Form(False, True, None, False), 'scan': Form(False, True, None, False),
+    'gather': Form(False, False, 'to', True), 'allgather': Form(False, False, None, True),
+    'scatter': Form(True, False, 'from', False), 'alltoall': Form(True, False, None, True)}
+# How many statements a word stands for at its own place, where they are several.
+STANDS_FOR = {'for': 2, 'sendrecv': 3}
+
+
 class Tokens:
-    """The tokens of a text, one at a time: `current` is the one looked at."""
+    """The tokens of a text, one at a time: `current` is the one looked at. What a token is hangs on the version, which is told behind the
+    number that names it, before the next token is looked at."""
 
     def __init__(self, text):
         self.text = text
         self.behind = 0
         self.current = None
+        self.reserved, self.sign = RESERVED, SIGN
         self.advance()
+
+    def become(self, version):
+        """Has what comes be the tokens of a text of this version."""
+        if version > 2:
+            self.reserved, self.sign = RESERVED | RESERVED_IN_3, SIGN_OF_3
 
     def advance(self):
         place = BLANKS.match(self.text, self.behind).end()
@@ -215,7 +293,7 @@ class Tokens:
             self.take_number(found.group(), place)
         elif found := WORD.match(self.text, place):
             self.take_word(found.group(), place)
-        elif found := SIGN.match(self.text, place):
+        elif found := self.sign.match(self.text, place):
             self.current = Token('sign', found.group(), place)
             self.behind = found.end()
         else:
@@ -231,7 +309,7 @@ class Tokens:
     def take_word(self, word, place):
         if len(word) > LONGEST_NAME:
             raise Fault(BAD_TOKEN, place)
-        self.current = Token('word' if word in RESERVED else 'name', word, place)
+        self.current = Token('word' if word in self.reserved else 'name', word, place)
         self.behind = place + len(word)
 
 
@@ -243,7 +321,8 @@ class Reader:
         self.tokens = Tokens(text)
         self.version = None
         self.line_feeds = [found.start() for found in re.finditer('\n', text)]
-        self.names = {}
+        self.names, self.constants = {}, {}
+        self.ranks = None
         self.taken = {'var': 0, 'req': 0}
         self.statement_count = 0
         self.open_blocks = 0
@@ -278,28 +357,44 @@ class Reader:
         self.version = self.tokens.current.value
         if self.version not in VERSIONS:
             raise self.fault(NOT_IN_VERSION)
+        self.tokens.become(self.version)
         self.tokens.advance()
         self.expect(';')
         self.expect('ranks')
         self.expect_kind('number')
-        ranks = self.tokens.current.value
-        if not 1 <= ranks <= MOST_RANKS:
+        self.ranks = self.tokens.current.value
+        if not 1 <= self.ranks <= MOST_RANKS:
             raise self.fault(BAD_RANKS)
         self.tokens.advance()
         self.expect(';')
-        while self.at('var') or self.at('req'):
-            self.declaration(self.tokens.current.value)
+        while self.at('var') or self.at('req') or self.at('const'):
+            self.constant() if self.at('const') else self.declaration(self.tokens.current.value)
         body = []
         while self.tokens.current.kind != 'end':
-            body.append(self.statement())
-        return Script(self.version, ranks, self.taken['var'], self.taken['req'], self.names, body)
+            body += self.statement()
+        return Script(self.version, self.ranks, self.taken['var'], self.taken['req'], self.names, body)
+
+    def new_name(self):
+        """The name of a declaration, which isn't declared yet, and its place; it is not passed."""
+        self.expect_kind('name')
+        _, name, place = self.tokens.current
+        if name in self.names or name in self.constants:
+            raise Fault(TWICE, place)
+        return name, place
+
+    def constant(self):
+        self.tokens.advance()
+        name, _ = self.new_name()
+        self.tokens.advance()
+        self.expect('=')
+        self.expect_kind('number')
+        self.constants[name] = self.tokens.current.value
+        self.tokens.advance()
+        self.expect(';')
 
     def declaration(self, kind):
         self.tokens.advance()
-        self.expect_kind('name')
-        _, name, place = self.tokens.current
-        if name in self.names:
-            raise Fault(TWICE, place)
+        name, place = self.new_name()
         if self.bracket_behind(kind, place):
             self.tokens.advance()
             size = self.array_size(kind)
@@ -324,15 +419,26 @@ class Reader:
         return self.at('[')
 
     def array_size(self, kind):
-        self.expect_kind('number')
-        size = self.tokens.current.value
+        size = self.size_named()
         if self.taken[kind] + size > most(kind):
             raise self.fault(TOO_MANY)
         self.tokens.advance()
         self.expect(']')
         return size
 
-    def block(self):
+    def size_named(self):
+        """The size that the current token is: a number, and in version 3 also the name of a constant, or the number of ranks."""
+        if self.version > 2 and self.tokens.current.kind == 'name':
+            if self.tokens.current.value not in self.constants:
+                raise self.fault(UNKNOWN_NAME)
+            return self.constants[self.tokens.current.value]
+        if self.version > 2 and self.at('size'):
+            return self.ranks
+        self.expect_kind('number')
+        return self.tokens.current.value
+
+    def block(self, close=None):
+        """The statements of a block; what `close` adds of its `}` stands behind them."""
         if not self.at('{'):
             raise self.fault(EXPECTED)
         if self.open_blocks == MOST_OPEN_BLOCKS:
@@ -341,15 +447,24 @@ class Reader:
         self.tokens.advance()
         body = []
         while not self.at('}'):
-            body.append(self.statement())
+            body += self.statement()
+        body += close() if close else []
         self.open_blocks -= 1
         self.tokens.advance()
         return body
 
+    def more_statements(self, count):
+        """Counts statements; whether there are more than may be."""
+        self.statement_count += count
+        return self.statement_count > MOST_STATEMENTS
+
+    def line_of(self, place):
+        return Line(1 + bisect_left(self.line_feeds, place), place)
+
     def statement(self):
+        """The statement that is read next, or those that it stands for."""
         kind, value, place = self.tokens.current
-        self.statement_count += 1
-        over = self.statement_count > MOST_STATEMENTS
+        over = self.more_statements(STANDS_FOR.get(value, 1) if kind == 'word' else 1)
         read_rest = None
         if kind == 'name':
             self.known('var')
@@ -359,13 +474,15 @@ class Reader:
             read_rest = self.rest_of(value) if kind == 'word' else None
             if read_rest is None:
                 raise Fault(EXPECTED, place)
+        own_handle = self.own_handle() if kind == 'word' and value == 'sendrecv' else None
         if over:
             raise Fault(TOO_MANY, place)
-        line = Line(1 + bisect_left(self.line_feeds, place), place)
+        line = self.line_of(place)
         if kind == 'name':
-            return self.assignment(line)
+            return [self.assignment(line)]
         self.tokens.advance()
-        return read_rest(line)
+        read = read_rest(line, own_handle) if own_handle else read_rest(line)
+        return read if isinstance(read, list) else [read]
 
     def has_waitany(self):
         return self.version > 1
@@ -377,6 +494,9 @@ class Reader:
             'send': self.sending, 'recv': self.receiving, 'isend': self.with_handle(self.sending),
             'irecv': self.with_handle(self.receiving), 'wait': self.waiting, 'ssend': self.sending_synchronously,
             'issend': self.with_handle(self.sending_synchronously), 'waitany': self.waiting_for_any, 'barrier': self.meeting,
+            # (the words that follow are reserved in version 3 alone)
+            'for': self.counting, 'waitall': self.waiting_for_all, 'sendrecv': self.exchanging, 'probe': self.probing,
+            'bcast': self.broadcasting, **{word: partial(self.collecting, word) for word in FORMS},
         }.get(word)
 
     def with_handle(self, read_rest):
@@ -396,8 +516,49 @@ class Reader:
         otherwise = []
         if self.at('else'):
             self.tokens.advance()
-            otherwise = self.block()
+            otherwise = self.branch_behind_else() if self.version > 2 and self.at('if') else self.block()
         return Branch(line, condition, then, otherwise)
+
+    def branch_behind_else(self):
+        """What `else if E {..}` stands for: `else { if E {..} }`, of which the block is open as long as its statement.
+
+        That 64 blocks are open here can't be: the block before the `else` would have been one too many.
+        """
+        if self.open_blocks == MOST_OPEN_BLOCKS:
+            raise self.fault(TOO_DEEP)
+        self.open_blocks += 1
+        body = self.statement()
+        self.open_blocks -= 1
+        return body
+
+    def counting(self, line):
+        """`for i in A .. B { S }`, which is `i = A; while i < B { S i = i + 1; }`: B is asked before each turn. The `..` counts among the operators
+        of B."""
+        place = self.counter()
+        self.expect('in')
+        self.operators = 0
+        first = self.binary(SUM)
+        self.expect('..')
+        self.operators = 1
+        bound = self.binary(SUM)
+        body = self.block(lambda: [self.next_number(place)])
+        return [Assign(line, place, first), While(line, Binary('<', place, bound), body)]
+
+    def counter(self):
+        """The variable behind `for`, which has no size."""
+        self.expect_kind('name')
+        declared = self.known('var')
+        if declared.size is not None:
+            raise self.fault(UNKNOWN_NAME)
+        name = self.tokens.current.value
+        self.tokens.advance()
+        return Place(name, declared.first, None, None)
+
+    def next_number(self, place):
+        """The last statement of a `for`, which stands at its `}`."""
+        if self.more_statements(1):
+            raise self.fault(TOO_MANY)
+        return Assign(self.line_of(self.tokens.current.place), place, Binary('+', place, Number(1)))
 
     def loop(self, line):
         condition = self.expression()
@@ -413,12 +574,16 @@ class Reader:
         self.expect(';')
         return Assert(line, condition)
 
-    def sending(self, line, handle=None, synchronous=False):
+    def message_to(self):
+        """The value of a send, its destination and its tag."""
         value = self.expression()
         self.expect('to')
         to = self.expression()
         self.expect('tag')
-        tag = self.expression()
+        return value, to, self.expression()
+
+    def sending(self, line, handle=None, synchronous=False):
+        value, to, tag = self.message_to()
         self.expect(';')
         return Send(line, handle, value, to, tag, synchronous)
 
@@ -428,12 +593,17 @@ class Reader:
     def receiving(self, line, handle=None):
         place = self.named_place('var')
         self.expect('from')
+        source, tag, status = self.message_from()
+        return Receive(line, handle, place, source, tag, status)
+
+    def message_from(self):
+        """The source, the tag and the status of a receive or a probe, to its end."""
         source = self.expression_or_any()
         self.expect('tag')
         tag = self.expression_or_any()
         status = self.status() if self.at('status') else None
         self.expect(';')
-        return Receive(line, handle, place, source, tag, status)
+        return source, tag, status
 
     def expression_or_any(self):
         """An expression, or None for the word `any`."""
@@ -451,6 +621,81 @@ class Reader:
         handle = self.named_place('req')
         self.expect(';')
         return Wait(line, handle)
+
+    def waiting_for_all(self, line):
+        """`waitall r;`, which is a wait for each handle of r in turn; it was counted as one statement."""
+        self.expect_kind('name')
+        name = self.tokens.current.value
+        _, first, size = self.known('req')
+        count = 1 if size is None else size
+        if self.more_statements(count - 1):
+            raise self.fault(TOO_MANY)
+        self.tokens.advance()
+        self.expect(';')
+        if size is None:
+            return [Wait(line, Place(name, first, None, None))]
+        return [Wait(line, Place(name, first, size, Number(index))) for index in range(size)]
+
+    def own_handle(self):
+        """The handle of the current `sendrecv`, which the first one declares where it isn't there, behind all declarations."""
+        if OWN_HANDLE not in self.names and OWN_HANDLE not in self.constants:
+            if self.taken['req'] == most('req'):
+                raise self.fault(TOO_MANY)
+            self.names[OWN_HANDLE] = Declared('req', self.taken['req'], None)
+            self.taken['req'] += 1
+        declared = self.names.get(OWN_HANDLE)
+        if declared is None or declared.kind != 'req' or declared.size is not None:
+            raise self.fault(UNKNOWN_NAME)
+        return Place(OWN_HANDLE, declared.first, None, None)
+
+    def exchanging(self, line, handle):
+        """`sendrecv V to D tag T recv M;`, which is `irecv sendrecv_ M; send V to D tag T; wait sendrecv_;`."""
+        value, to, tag = self.message_to()
+        self.expect('recv')
+        received = self.receiving(line, handle)
+        return [received, Send(line, None, value, to, tag, False), Wait(line, handle)]
+
+    def probing(self, line):
+        self.expect('from')
+        source, tag, status = self.message_from()
+        return Probe(line, source, tag, status)
+
+    def broadcasting(self, line):
+        place = self.named_place('var')
+        self.expect('from')
+        root = self.expression()
+        self.expect(';')
+        return Collective(line, 'bcast', None, root, None, place)
+
+    def collecting(self, kind, line):
+        """A collective of any other kind: what it gives, its operation and its root, where its form has them, and where it puts what it gets."""
+        form = FORMS[kind]
+        given = self.named_cells() if form.gives_array else self.expression()
+        operation = self.operation() if form.has_operation else None
+        root = None
+        if form.root_word is not None:
+            self.expect(form.root_word)
+            root = self.expression()
+        self.expect('into')
+        into = self.named_cells() if form.gets_array else self.named_place('var')
+        self.expect(';')
+        return Collective(line, kind, given, root, operation, into)
+
+    def operation(self):
+        self.expect('with')
+        if self.tokens.current.kind != 'name' or self.tokens.current.value not in OPERATIONS:
+            raise self.fault(EXPECTED)
+        operation = self.tokens.current.value
+        self.tokens.advance()
+        return operation
+
+    def named_cells(self):
+        """All cells of a variable, which stands without brackets whether it has a size or not."""
+        self.expect_kind('name')
+        name = self.tokens.current.value
+        _, first, size = self.known('var')
+        self.tokens.advance()
+        return Whole(name, first, 1 if size is None else size)
 
     def waiting_for_any(self, line):
         name, first, count = self.named_handles()
@@ -522,6 +767,9 @@ class Reader:
         if self.at('rank') or self.at('size'):
             self.tokens.advance()
             return OwnRank() if value == 'rank' else RankCount()
+        if kind == 'name' and value in self.constants:
+            self.tokens.advance()
+            return Number(self.constants[value])
         if kind == 'name':
             return self.variable_value()
         if self.at('('):

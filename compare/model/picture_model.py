@@ -484,7 +484,7 @@ class Rows(Picture):
         call_id = glyph.call
         call = find_call(self.world, call_id)
         signs = (f'{LETTERS[call.kind]} ' if rank == call_id.rank else '| ' for rank in self.ranks)
-        short = plain_text(call).partition(' value')[0]
+        short = plain_text(self.world, call_id).partition(' value')[0]
         return self.row(signs, f'{self.at.lines[call_id]}: {call_id} {short}{" free" if self.is_free(call_id) else ""}')
 
     def pair(self, glyph):

@@ -42,7 +42,7 @@ def decision(world):
 
     The first of these that is there: the local step of the lowest rank, the release, the wake of the lowest rank, the match of a
     receive that names its source, first by receiver and number; else a choice among the wakes of the lowest rank that goes on by any of
-    some handles, else one among all matches that are left, else a leaf.
+    some handles, or from a probe of any source, else one among all matches that are left, else a leaf.
     """
     steps = enabled_steps(world)
     for kind in ('local', 'release', 'wake'):

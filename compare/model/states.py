@@ -13,6 +13,7 @@ from collections import Counter
 from typing import NamedTuple
 
 from model import walks, wide
+from model.collectives import calls_of_open_rounds
 from model.complete import left
 from model.debugger import find_call, last_call, partner, received_writes
 from model.policy import Forced
@@ -69,6 +70,7 @@ def up_to_first(leaves, stops_at):
 
 def unread(rank):
     """The cells that are written before anything reads them: those of the receive on which a rank is blocked."""
+    # (reading: those of a collective or a probe aren't counted here, since nothing is said of them)
     if rank.mode != 'blocked' or rank.calls[-1].kind != 'recv':
         return ()
     return (rank.calls[-1].cell, *(rank.calls[-1].status or ()))
@@ -103,6 +105,17 @@ def place_of(call):
 def free(rank):
     """What the calls of a rank ask for that are free, and where they were issued."""
     return tuple((number, place_of(rank.calls[number]), asked_by_call(rank.calls[number])) for number in rank.free)
+
+
+def asked_in_round(call):
+    """What a collective call asks for and gives. Where it stands and what it writes counts for the one alone on which a rank is blocked."""
+    return (call.kind,) if call.kind == 'barrier' else (call.kind, call.root, call.operation, call.values)
+
+
+def open_collectives(world):
+    """The collective calls of each rank, in their order, of those rounds that some rank hasn't left: who comes to a round later gets what was given
+    then. How many rounds there were isn't asked: these calls tell how far a rank is ahead."""
+    return tuple(tuple(map(asked_in_round, calls)) for calls in calls_of_open_rounds(world))
 
 
 def will_write(world, call_id):
@@ -143,7 +156,7 @@ def mode_of(world):
 
 def key(world):
     """What tells a state apart from others whose runs may end otherwise."""
-    return mode_of(world), tuple(rank_key(world, number) for number in range(len(world.ranks)))
+    return mode_of(world), tuple(rank_key(world, number) for number in range(len(world.ranks))), open_collectives(world)
 
 
 # ---- what is told of runs

@@ -5,7 +5,7 @@ another's. So of a script with such waits, or in a mode of slots, it may lack an
 
 - A step that is enabled is *quiet* if nothing that can come before it conflicts with it: a local step, unless it issues a standard send though
   its rank holds as many slots as the mode has, which has one at least; a release; a wake; a match whose receive names its source and whose
-  send holds no slot. A wake by one of some handles is never quiet, nor is a match of a receive of any source.
+  send holds no slot. A wake by one of some handles or from a probe of any source is never quiet, nor is a match of a receive of any source.
 - The first quiet step is forced, in the order in which the enabled ones are listed. If none is quiet, all enabled ones are candidates, in
   that order. If none is enabled, that is a leaf.
 - Two steps *conflict* if they are matches that share a call; if one is a local step that lacks a slot, and the other a match that gives one
@@ -63,9 +63,11 @@ def is_over(rank):
 
 
 def requests_left(world, number):
-    """How many requests are left of those that a rank waits for any of."""
+    """How many requests are left of those that a rank waits for any of; none where it is at a probe, which may be told of more than is there."""
     rank = world.ranks[number]
     call = rank.calls[-1]
+    if call.kind == 'probe':
+        return 0
     return sum(handle is not None for handle in rank.handles[call.first:call.first + call.count])
 
 

@@ -59,6 +59,32 @@ class BarrierCall(NamedTuple):
     blocks = True
 
 
+class CollectiveCall(NamedTuple):
+    """A collective, at which its rank is until those that it waits for are there; root and operation are None where its kind has none.
+
+    `values` are what the rank gives, as it was when the call was issued: none, one, or one for each rank. `cell` is the first that takes what it
+    gets.
+    """
+    kind: str
+    root: Optional[int]
+    operation: Optional[str]
+    values: tuple
+    cell: int
+    line: int = 0
+    blocks = True
+
+
+class ProbeCall(NamedTuple):
+    """A probe, at which its rank is until a send is there; source (`other`) and tag are None where they are any, as those of a receive, and
+    `status` has the cells for what it is told, where it has such cells."""
+    other: Optional[int]
+    tag: Optional[int]
+    status: Optional[tuple]
+    line: int = 0
+    kind = 'probe'
+    blocks = True
+
+
 class Rank(NamedTuple):
     """A rank; `rest` is None at the end, else (statement, rest); `mode` is running, blocked or trapped.
 
@@ -104,7 +130,7 @@ class World(NamedTuple):
 
 class Step(NamedTuple):
     """A step: local or wake of a rank (`first`), wake of a rank by one of the handles that it waits for any of, by its place among them
-    (`second`), match of a send (`first`) and a receive, or release."""
+    (`second`), or of one at a probe of any source, by the rank of the send that it is told of; match of a send (`first`) and a receive, or release."""
     kind: str
     first: object = None
     second: object = None

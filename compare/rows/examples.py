@@ -1,4 +1,4 @@
-"""The examples: scripts with words behind them, and the lessons of docs/EXAMPLES.md (its five first scripts, its nine mistakes, and the
+"""The examples: scripts with words behind them, and the lessons of docs/COURSE.md ("More scripts") (its five first scripts, its nine mistakes, and the
 reports at its end), whose script and words are files of their own.
 
 NAME.trace is answered by NAME.stdout. NAME.mpd with NAME.words is answered by NAME.stdout, and in the mode `buffered` by

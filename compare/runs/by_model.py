@@ -9,7 +9,8 @@
     python3 compare/runs/by_model.py debug FILE [--witness WITNESS]          the console, at a terminal and without one
     python3 compare/runs/by_model.py picture FILE [--choices C] [--text]     the picture of a run as SVG, or as text; with `--ends` too
 
-`--mode M` may stand behind each of these words, and `--fuel N` behind `check`, `words` and `picture`.
+`--mode M` may stand behind each of these words, and `--fuel N` behind `check`, `words` and `picture`. With `--version 3` before all words the
+model reads scripts of version 3 too, which the program doesn't read yet.
 """
 
 import argparse
@@ -21,7 +22,7 @@ sys.path.insert(0, os.path.dirname(os.path.dirname(os.path.abspath(__file__))))
 from model import console, explorer, outcomes, picture_model, session, witness
 from model.debugger import BAD_FILE, BAD_MODE, RENDEZVOUS, Result, answer, answer_file, file_content
 from model.explorer import MOST_FUEL, USUAL, number_between
-from model.language import read_script
+from model.language import read_script, read_up_to
 from model.modes import is_mode
 from model.run_words import WRONG_WORDS, Words
 
@@ -115,7 +116,11 @@ COMMANDS = {'trace': trace, 'check': check, 'verify': verify, 'words': words_of,
 
 
 def main():
-    command, *words = sys.argv[1:] or [None]
+    given = sys.argv[1:]
+    if given[:1] == ['--version']:
+        read_up_to(int(given[1]))
+        given = given[2:]
+    command, *words = given or [None]
     if command is not None and command not in COMMANDS:
         sys.exit(__doc__)
     result = answer(sys.stdin.buffer.read()) if command is None else COMMANDS[command](words)

@@ -7,7 +7,7 @@
 
 Of each script the run of the first candidates is drawn, one by its choices, by its trace words, and by a witness where it is a deadlock;
 the first candidates and the choices are those along the wide walk, too, with `--ends`, which the words and the witness may have beside them; and
-choices and words that are wrong are refused. Without a PROGRAM the model is asked. The examples of docs/EXAMPLES.md are drawn too, and
+choices and words that are wrong are refused. Without a PROGRAM the model is asked. The examples of docs/COURSE.md ("More scripts") are drawn too, and
 are the files that stand in examples/; `--write` writes these by the model. The status is 0 where nothing differs, all drawings are well
 formed, and all was met that must be.
 """
@@ -41,7 +41,7 @@ from started.programs import run_at_once
 
 SVG = '{http://www.w3.org/2000/svg}'
 ELEMENTS = {SVG + name for name in ('svg', 'title', 'style', 'defs', 'marker', 'path', 'rect', 'text', 'line', 'g')}
-# The scripts of docs/EXAMPLES.md whose pictures stand in examples/, each with its mode and the choices of the run, or None for the first.
+# The scripts of docs/COURSE.md ("More scripts") whose pictures stand in examples/, each with its mode and the choices of the run, or None for the first.
 DRAWN = (('race', RENDEZVOUS, None), ('first_message', RENDEZVOUS, None), ('head_to_head', RENDEZVOUS, None), ('kept_order', RENDEZVOUS, None),
          ('skipped_barrier', RENDEZVOUS, None), ('lost_request', RENDEZVOUS, None), ('swapped_tags', RENDEZVOUS, None),
          ('stolen_message', RENDEZVOUS, None), ('overtaking', RENDEZVOUS, None), ('trap', RENDEZVOUS, None), ('waitany', RENDEZVOUS, None),

@@ -49,7 +49,7 @@ EXCERPTS = {
     'docs/CONSOLE.md': ('help lists ', '            4  var x; '),
     'docs/FROM_A_RUN.md': ('first run: ', 'recv x from any tag 2 '),
     'docs/GATE.md': ('fn: ',),
-    'docs/PAGES.md': ('{"format":', '{"s":"local 2"'),
+    'docs/PAGES.md': ('{"run":{"format":', '{"c":{"kind":"send"'),
     'docs/PICTURES.md': ('<line class', '0 1 2')}
 # Files that a page names by a word: a script, words for it, and a witness of it, which is made.
 FILES = {'FILE': 'examples/race.mpd', 'WORDS': 'examples/race.words', 'WITNESS': 'made.witness', '--port P': '--port 7007', '--clients N': '--clients 2'}

@@ -86,7 +86,7 @@ def example_rows(program):
 
 
 def lesson_rows(program):
-    """Status 0 for each lesson of docs/EXAMPLES.md, in each mode that it shows, traced and at the console, and the status of each check."""
+    """Status 0 for each lesson of docs/COURSE.md ("More scripts"), in each mode that it shows, traced and at the console, and the status of each check."""
     for lesson in lessons():
         mode = () if lesson.mode == RENDEZVOUS else ('--mode', lesson.mode)
         result = Files(file_of(open_example(f'{lesson.name}.words'))).run(program, 'trace', lesson.script, *mode)
@@ -401,6 +401,11 @@ REFUSED_PAGES = (
         ('--witness', 'w', '--runs', '2'), ('--words', 'w', '--runs', '2'))))
 
 
+def states_of(page):
+    """How many states the data of a page has: each has a line of its own."""
+    return len(page.partition(b'"nodes":[\n')[2].partition(b'\n]')[0].split(b'\n'))
+
+
 def page_rows(program):
     """What pages are refused, with nothing written, and that one of as many states as there may be is not."""
     def paged(*words):
@@ -416,7 +421,7 @@ def page_rows(program):
         told = b'mpdbg: page of more than 20000 states\n  --fuel N lets a run take N steps at most, --runs N shows fewer runs\n'
         yield 'a page of too many states, at a terminal', at_terminal(program, 'page', script), Result(b'', told, 2)
         done = paged('--fuel', '19999')
-        yield 'a page of 20,000 states', (done.stdout.count(b'\n{"s":'), done.stderr, done.returncode), (20000, b'', 0)
+        yield 'a page of 20,000 states', (states_of(done.stdout), done.stderr, done.returncode), (20000, b'', 0)
 
 
 # A word with bytes that would move a terminal's cursor or change its colours, and one letter that wouldn't; how it is shown there.

@@ -29,7 +29,7 @@ from faults.wide_faults import breakages, conflict_faults, row_faults
 from model import explorer, wide
 from model.complete import TooMany, asleep_walk, is_whole, joined_wrong, others_wrong, tried, twice_wrong, walk_wrong, walked
 from model.debugger import first_world
-from model.explorer import has_waitany
+from model.explorer import has_choice_of_wakes
 from model.language import Fault, read_script
 from model.modes import BUFFERED, RENDEZVOUS, slots_of
 from rows import worked_wide
@@ -58,8 +58,8 @@ class Told(NamedTuple):
 
 
 def why_other(script, mode):
-    """Why the wide walk of a script in a mode may be another one than the walk along decisions."""
-    with_any, with_slots = has_waitany(script.body), slots_of(mode) is not None
+    """Why the wide walk of a script in a mode may be another one than the walk along decisions; a probe of any source counts as a waitany."""
+    with_any, with_slots = has_choice_of_wakes(script.body), slots_of(mode) is not None
     return {(False, False): SAME, (True, False): 'waitany', (False, True): 'slots', (True, True): 'waitany and slots'}[with_any, with_slots]
 
 

@@ -11,7 +11,8 @@ compare/rows/worked_outcomes.py and compare/rows/worked_decided.py, those that s
 compare/rows/worked_diagnosed.py, explanations in compare/rows/worked_explained.py, dialogues of a session in
 compare/rows/worked_sessions.py, rows of all these kinds for version 2 in compare/rows/worked_waitany.py, and for the modes `slots:K` in
 compare/rows/worked_slots.py, and wide walks in compare/rows/worked_wide.py. Dialogues of the console stand in compare/rows/console_worked.py,
-marks in compare/rows/worked_marks.py. The lessons of docs/EXAMPLES.md are rows too,
+marks in compare/rows/worked_marks.py. Rows of version 3, which the program doesn't read yet, stand in compare/rows/worked_version3.py and
+compare/rows/worked_version3_calls.py: for them the model reads it. The lessons of docs/COURSE.md ("More scripts") are rows too,
 with their answers in files. The status is 0 where the model answers all of them so.
 """
 
@@ -23,10 +24,10 @@ sys.path.insert(0, os.path.dirname(os.path.dirname(os.path.abspath(__file__))))
 
 from model import console, debugger, explorer
 from model.debugger import Result, answer, answer_file
-from model.language import read_script
+from model.language import read_script, reading_up_to
 from model.policy_words import Driven
 from rows import (console_worked, worked_decided, worked_diagnosed, worked_ends, worked_explained, worked_explorer, worked_marks, worked_outcomes,
-                  worked_pieces, worked_sessions, worked_slots, worked_waitany, worked_wide)
+                  worked_pieces, worked_sessions, worked_slots, worked_version3, worked_version3_calls, worked_waitany, worked_wide)
 from rows.examples import checks, consoles, lessons, open_example
 from rows.worked_runs import RUNS
 from rows.worked_states import ALL, REFUSED, asked_words, row_problem
@@ -108,6 +109,8 @@ def main():
     problems += list(worked_marks.problems())
     problems += worked_sessions.problems()
     problems += console_worked.problems()
+    with reading_up_to(3):
+        problems += worked_version3.problems(worked_version3.ALL + worked_version3_calls.ALL)
     problems += [(statement, refusal_problem(statement, fault, place)) for statement, fault, place in REFUSED]
     problems += [(f'{lesson.name} ({lesson.mode})', lesson_problem(lesson)) for lesson in lessons()]
     problems += [(f'{typed.beginning}, console', typed_problem(typed)) for typed in consoles()]
