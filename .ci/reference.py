@@ -1,16 +1,15 @@
 #!/usr/bin/env python3
-"""Makes docs/REFERENCE.md from the sources alone: each crate, bottom first, with its public types and functions and their clauses.
+"""Makes a reference of the sources: each crate, bottom first, with its public types and functions and their clauses.
 
-    .ci/reference.py            at the top of the repository: status 0 where the page is what the sources make, else 1 with the first
-                                lines that differ
-    .ci/reference.py --write    writes the page
+    .ci/reference.py            at the top of the repository: status 0 where each public item has a doc comment, else 1 with those
+                                that have none
+    .ci/reference.py --write    writes docs/REFERENCE.md, which isn't committed
 
 What is told of a crate is the first paragraph of the doc comment of `src/lib.rt` (or `main.rt`); of a function or a type it is the
 first sentence of its doc comment; of a clause its name. Of a constant without a doc comment, of a type that its file tells of, it is
 that type; constants that are told alike, one after another, have one row. A function is public where its module is, or where
 `lib.rt` brings its name, or that of its type, out by `pub use`.
 """
-import difflib
 import glob
 import os
 import re
@@ -20,8 +19,8 @@ from typing import NamedTuple
 PAGE = 'docs/REFERENCE.md'
 HEAD = """# Reference
 
-`.ci/reference.py` makes this page from the sources, and the gate compares it: change a doc comment or a clause, and run
-`.ci/reference.py --write`. Crates stand bottom first, in the order of the longest chain of crates below each.
+`.ci/reference.py --write` made this page from the sources. Crates stand bottom first, in the order of the longest chain of
+crates below each.
 
 Each crate has its public types and functions. Of each you read the first sentence of its doc comment, and of a function
 the names of its clauses: what it *requires* of its caller, and what it *ensures*. `(1)` is a clause without a name, `(2)` are
@@ -200,18 +199,14 @@ def thin(root):
 
 
 def main(words):
-    made = page('.')
     if words == ['--write']:
         with open(PAGE, 'w', encoding='utf-8') as it:
-            it.write(made)
+            it.write(page('.'))
         return 0
-    stands = read(PAGE) if os.path.isfile(PAGE) else ''
-    differ = [*difflib.unified_diff(stands.splitlines(), made.splitlines(), PAGE, 'the sources', lineterm='', n=0)]
-    for line in differ[:20]:
-        print(line)
-    for name in (bare := [*thin('.')]):
+    bare = [*thin('.')]
+    for name in bare:
         print(f'no doc comment: {name}')
-    return 1 if differ or bare else 0
+    return 1 if bare else 0
 
 
 if __name__ == '__main__':
