@@ -146,7 +146,13 @@ fn push_panes(
     for row in 0..rows {
         let place = above + row;
         let line = lines.get(place).copied();
-        push_left(out, ranks, place.saturating_add(1), line, left_columns(columns))?;
+        push_left(
+            out,
+            ranks,
+            place.saturating_add(1),
+            line,
+            left_columns(columns),
+        )?;
         out.extend_from_slice(BETWEEN)?;
         push_right(out, ranks, row, right_columns(columns))?;
         out.push(b'\n')?;
